@@ -7,8 +7,7 @@ use Rattle.readers.specs.Tokens.{block4}
 use Rattle.readers.specs.declared.cursor.Encoding.{Encoding}
 use Rattle.readers.specs.declared.cursor.Cursor.{Cursor}
 use Rattle.readers.specs.declared.fields.Field.{Field}
-use Rattle.bundle.specs.declared.BundleRead.{BundleRead}
-use Rattle.bundle.specs.declared.BundleRead.TheVariants.{Read as Bundle', Wrong}
+use Rattle.bundle.specs.declared.Bundle.{Bundle}
 
 unfoldable pub big_endian : Encoding
 big_endian = record { version = 5; offset_size = 4; address_size = 8; big_endian = true }
@@ -31,16 +30,16 @@ frame_of s =
     leb (length s) 65536 and number_is (fixed_at true 4 s 0) (length s - 4) and leb 5 (length s)
     and (eqb (version_of s) 1 or eqb (version_of s) 2)
 
-unfoldable pub on_part : Option Field → (Field → BundleRead) → BundleRead
+unfoldable pub on_part : Option Field → (Field → Option Bundle) → Option Bundle
 on_part (Some f) k = k f
-on_part None k = Wrong
+on_part None k = None
 
 -- "A bundle with version byte 2 has the ranges section after the address table"; with 1 it is empty
 unfoldable pub debug_ranges_part : List ℕ → ℕ → Option Field
 debug_ranges_part s at = pick (eqb (version_of s) 2) (part s at) (Some (record { value = 0; start = at; end = at }))
 
 -- unit section, abbreviations, location lists, range lists, address table and .debug_ranges, and nothing after them
-unfoldable pub sections_of : List ℕ → BundleRead
+unfoldable pub sections_of : List ℕ → Option Bundle
 sections_of s =
     on_part (part s 5) (λ unit.
     on_part (part s unit.end) (λ abbreviations.
@@ -49,7 +48,7 @@ sections_of s =
     on_part (part s ranges.end) (λ addresses.
     on_part (debug_ranges_part s addresses.end) (λ debug_ranges.
     pick (eqb debug_ranges.end (length s))
-    (Bundle' (record {
+    (Some (record {
       unit = unit;
       abbreviations = abbreviations;
       locations = locations;
@@ -57,7 +56,7 @@ sections_of s =
       addresses = addresses;
       debug_ranges = debug_ranges;
     }))
-    Wrong))))))
+    None))))))
 
-unfoldable pub bundle_of : List ℕ → BundleRead
-bundle_of s = pick (frame_of s) (sections_of s) Wrong
+unfoldable pub bundle_of : List ℕ → Option Bundle
+bundle_of s = pick (frame_of s) (sections_of s) None

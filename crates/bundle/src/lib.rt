@@ -23,12 +23,6 @@ pub struct Bundle {
     pub debug_ranges: Field,
 }
 
-#[derive(Clone, Copy)]
-pub enum BundleRead {
-    Read(Bundle),
-    Wrong,
-}
-
 // A section of the bundle: a big-endian length of four bytes, and so many bytes.
 fn section(s: &[u8], at: usize) -> Option<Field>
     ensures { result ≡ part s.now at }
@@ -90,31 +84,19 @@ fn debug_ranges_section(s: &[u8], at: usize) -> Option<Field>
 }
 
 // The sections, one after the other, with nothing after them.
-fn sections(s: &[u8]) -> BundleRead
+fn sections(s: &[u8]) -> Option<Bundle>
     ensures { result ≡ sections_of s.now }
 {
-    let Some(unit) = section(s, 5) else {
-        return BundleRead::Wrong;
-    };
-    let Some(abbreviations) = section(s, unit.end) else {
-        return BundleRead::Wrong;
-    };
-    let Some(locations) = section(s, abbreviations.end) else {
-        return BundleRead::Wrong;
-    };
-    let Some(ranges) = section(s, locations.end) else {
-        return BundleRead::Wrong;
-    };
-    let Some(addresses) = section(s, ranges.end) else {
-        return BundleRead::Wrong;
-    };
-    let Some(debug_ranges) = debug_ranges_section(s, addresses.end) else {
-        return BundleRead::Wrong;
-    };
+    let unit = section(s, 5)?;
+    let abbreviations = section(s, unit.end)?;
+    let locations = section(s, abbreviations.end)?;
+    let ranges = section(s, locations.end)?;
+    let addresses = section(s, ranges.end)?;
+    let debug_ranges = debug_ranges_section(s, addresses.end)?;
     if debug_ranges.end != s.len() {
-        return BundleRead::Wrong;
+        return None;
     }
-    BundleRead::Read(Bundle {
+    Some(Bundle {
         unit,
         abbreviations,
         locations,
@@ -132,11 +114,11 @@ pub fn section_bytes<'a>(s: &'a [u8], section: Field) -> &'a [u8]
 }
 
 // Reads a bundle: the length of the rest, version 1 or 2, and the sections.
-pub fn read_bundle(s: &[u8]) -> BundleRead
+pub fn read_bundle(s: &[u8]) -> Option<Bundle>
     ensures { result ≡ bundle_of s.now }
 {
     if frame(s) {
         return sections(s);
     }
-    BundleRead::Wrong
+    None
 }

@@ -8,12 +8,13 @@ use lib.ListN.{length, length-replicate}
 use borrow.Author.Tests.{lt-ltb, le-ltb}
 use Rattle.readers.specs.Choice.{pick, zeros, put}
 use Rattle.marking.specs.Columns.{pad_to}
+use Rattle.rewriting.specs.Outputs.{Answer}
 use Rattle.rewriting.specs.Written.{run_bytes}
 use Rattle.rewriting.proofs.ListPass.Tables.{length_run, length-put}
 use Rattle.rewriting.proofs.WritePass.UnitWritten.{out-is}
 use Rattle.rewriting.specs.declared.collect.Counts.{Counts}
-use Rattle.rewriting.specs.declared.collect.Collected.{Collected as Answer}
-use Rattle.rewriting.specs.declared.collect.Collected.TheVariants.{Untouched, Rewritten, Refused}
+use Rattle.std.specs.Prelude.{Err, Ok, Result}
+use Rattle.rewriting.specs.declared.collect.Collected.TheVariants.{Untouched, Rewritten}
 use Rattle.collector.specs.Call.{count_of, presence_of, numbers_of, presences_of, count_bytes, is_uncounted, accepted_counts, number_for, counts_for}
 
 pub numbers-are : (c : Counts) (a b d : ℕ) → a ≡ count_of c.ranges → b ≡ count_of c.locations → d ≡ count_of c.strings
@@ -72,7 +73,7 @@ same-zeros s₀ s₁ z =
     (l, z ∙ ap (λ (n : ℕ). zeros n) (sym l))
 
 module _ (answer : Answer) (c : Counts) (s₀ s₁ s₂ : List ℕ) (k : ℕ) where
-  pub give-untouched : answer ≡ Untouched c → s₁ ≡ zeros (length s₀) → k ≡ pick (is_uncounted (length s₁)) 258 256 → (s₁ ≡ zeros (length s₁) → s₂ ≡ accepted_counts (length s₁) c)
+  pub give-untouched : answer ≡ Ok (Ok (Untouched c)) → s₁ ≡ zeros (length s₀) → k ≡ pick (is_uncounted (length s₁)) 258 256 → (s₁ ≡ zeros (length s₁) → s₂ ≡ accepted_counts (length s₁) c)
       → (k ≡ number_for (length s₀) answer) × (s₂ ≡ counts_for (length s₀) answer)
   unfolding number_for counts_for
   give-untouched e z f g =
@@ -81,7 +82,7 @@ module _ (answer : Answer) (c : Counts) (s₀ s₁ s₂ : List ℕ) (k : ℕ) wh
         g l.1 ∙ ap (λ (n : ℕ). accepted_counts n c) l.0 ∙ ap (counts_for (length s₀)) (sym e),
       )
 
-  pub give-rewritten : answer ≡ Rewritten c → s₁ ≡ zeros (length s₀) → k ≡ pick (is_uncounted (length s₁)) 259 257 → (s₁ ≡ zeros (length s₁) → s₂ ≡ accepted_counts (length s₁) c)
+  pub give-rewritten : answer ≡ Ok (Ok (Rewritten c)) → s₁ ≡ zeros (length s₀) → k ≡ pick (is_uncounted (length s₁)) 259 257 → (s₁ ≡ zeros (length s₁) → s₂ ≡ accepted_counts (length s₁) c)
       → (k ≡ number_for (length s₀) answer) × (s₂ ≡ counts_for (length s₀) answer)
   unfolding number_for counts_for
   give-rewritten e z f g =
@@ -90,7 +91,7 @@ module _ (answer : Answer) (c : Counts) (s₀ s₁ s₂ : List ℕ) (k : ℕ) wh
         g l.1 ∙ ap (λ (n : ℕ). accepted_counts n c) l.0 ∙ ap (counts_for (length s₀)) (sym e),
       )
 
-pub give-refused : (answer : Answer) (s₀ s₁ : List ℕ) (k : ℕ) → answer ≡ Refused k → s₁ ≡ zeros (length s₀)
+pub give-refused : (answer : Answer) (s₀ s₁ : List ℕ) (k : ℕ) → answer ≡ Err k → s₁ ≡ zeros (length s₀)
     → (k ≡ number_for (length s₀) answer) × (s₁ ≡ counts_for (length s₀) answer)
 unfolding number_for counts_for
 give-refused answer s₀ s₁ k e z = (ap (number_for (length s₀)) (sym e), z ∙ ap (counts_for (length s₀)) (sym e))

@@ -17,8 +17,8 @@ use Rattle.readers.specs.Stream.{Item, entry, terminator, items_from}
 use Rattle.readers.specs.declared.cursor.Encoding.{Encoding}
 use Rattle.readers.specs.declared.header.UnitHeader.{UnitHeader}
 use Rattle.marking.specs.EntryReferences.{ReferencesFound, found, refused as refused_after}
-use Rattle.marking.specs.declared.root_test.Verdict.{Verdict}
-use Rattle.marking.specs.declared.root_test.Verdict.TheVariants.{Live, Dead, Refused as Failed}
+use Rattle.marking.specs.declared.addresses.Verdict.{Verdict}
+use Rattle.marking.specs.declared.addresses.Verdict.TheVariants.{Live, Dead}
 use Rattle.marking.specs.Analysis.{Sections, Rooms, EntryRow, Analysed, analysed, refused as not_analysed, onto, on_verdict, on_found, Reached, reached, start_of, root_of, names_of, base_of, analyse_items, on_declared, unit_analysed, header_analysed, analysis_of, header_by}
 use Rattle.rewriting.specs.Rewriting.{Unit as Unit', unit_of, Collected, refused, lists_fit, or_refused, rewrite_of, marks_collected, rows_collected, analysed_collected, declared_collected, header_collected, collect_of}
 use Rattle.rewriting.specs.Outputs.{room_by}
@@ -26,11 +26,11 @@ use Rattle.rewriting.specs.Outputs.{room_by}
 -- ---- an analysis
 
 -- a verdict and what is found are the same for both
-pub both-verdict : (Q : Analysed → Analysed → Type 0) (v : Verdict) (k j : ℕ → Analysed) → ((root : ℕ) → Q (k root) (j root)) → ((n : ℕ) → Q (not_analysed n) (not_analysed n)) → Q (on_verdict v k) (on_verdict v j)
+pub both-verdict : (Q : Analysed → Analysed → Type 0) (v : Result Verdict ℕ) (k j : ℕ → Analysed) → ((root : ℕ) → Q (k root) (j root)) → ((n : ℕ) → Q (not_analysed n) (not_analysed n)) → Q (on_verdict v k) (on_verdict v j)
 unfolding on_verdict
-both-verdict Q Live k j h z = h 1
-both-verdict Q Dead k j h z = h 0
-both-verdict Q (Failed n) k j h z = z n
+both-verdict Q (Ok Live) k j h z = h 1
+both-verdict Q (Ok Dead) k j h z = h 0
+both-verdict Q (Err n) k j h z = z n
 
 pub both_found : (Q : Analysed → Analysed → Type 0) (f : ReferencesFound) (k j : List ℕ → Analysed) → ((names : List ℕ) → Q (k names) (j names)) → ((n : ℕ) → Q (not_analysed n) (not_analysed n)) → Q (on_found f k) (on_found f j)
 unfolding on_found

@@ -1,7 +1,7 @@
 -- What the calls for C answer: a number, and the counts as bytes (document 01, "collect": "An accepted answer says
 -- untouched or rewritten and gives the counts of entries, kept entries, map places and output bytes .. and of each list, or
 -- that it is absent").
-use Rattle.std.specs.Prelude.{ℕ, Bool, List, [], ◌∷◌, ◌++◌, ltb}
+use Rattle.std.specs.Prelude.{ℕ, Bool, List, [], ◌∷◌, ◌++◌, ltb, Err, None, Ok, Option, Result, Some}
 use Rattle.readers.specs.Choice.{pick, zeros}
 use Rattle.marking.specs.Columns.{pad_to}
 use Rattle.marking.specs.Analysis.{sections}
@@ -9,22 +9,19 @@ use Rattle.marking.specs.KeepList.{keep_in}
 use Rattle.marking.specs.declared.setting.Setting.{Setting}
 use Rattle.rewriting.specs.Written.{run_bytes}
 use Rattle.rewriting.specs.Rewriting.{Collected, Room, collect_of}
-use Rattle.rewriting.specs.Outputs.{room_of}
-use Rattle.rewriting.specs.declared.lists.ListCount.{ListCount}
-use Rattle.rewriting.specs.declared.lists.ListCount.TheVariants.{Present, Absent}
+use Rattle.rewriting.specs.Outputs.{Answer, room_of}
 use Rattle.rewriting.specs.declared.collect.Counts.{Counts}
-use Rattle.rewriting.specs.declared.collect.Collected.{Collected as Answer}
-use Rattle.rewriting.specs.declared.collect.Collected.TheVariants.{Untouched, Rewritten, Refused}
+use Rattle.rewriting.specs.declared.collect.Collected.TheVariants.{Untouched, Rewritten}
 
 -- a list's count, 0 where it is absent
-unfoldable pub count_of : ListCount → ℕ
-count_of (Present n) = n
-count_of Absent = 0
+unfoldable pub count_of : Option ℕ → ℕ
+count_of (Some n) = n
+count_of None = 0
 
 -- 1 where a list is present
-unfoldable pub presence_of : ListCount → ℕ
-presence_of (Present n) = 1
-presence_of Absent = 0
+unfoldable pub presence_of : Option ℕ → ℕ
+presence_of (Some n) = 1
+presence_of None = 0
 
 -- the counts of an answer, in their order, and for each list whether it is present
 abbrev pub numbers_of : Counts → List ℕ
@@ -45,18 +42,18 @@ is_uncounted n = ltb n 59
 -- the number of an answer whose counts have n bytes of room: a refusal's own; else 256 untouched, 257 rewritten, and 2
 -- more where the counts have no room
 unfoldable pub number_for : ℕ → Answer → ℕ
-number_for n (Untouched c) = pick (is_uncounted n) 258 256
-number_for n (Rewritten c) = pick (is_uncounted n) 259 257
-number_for n (Refused k) = k
+number_for n (Ok (Ok (Untouched c))) = pick (is_uncounted n) 258 256
+number_for n (Ok (Ok (Rewritten c))) = pick (is_uncounted n) 259 257
+number_for n (Err k) = k
 
 -- the bytes of the counts: zeros after a refusal, and where they have no room
 unfoldable pub accepted_counts : ℕ → Counts → List ℕ
 accepted_counts n c = pick (is_uncounted n) (zeros n) (pad_to n (count_bytes c))
 
 unfoldable pub counts_for : ℕ → Answer → List ℕ
-counts_for n (Untouched c) = accepted_counts n c
-counts_for n (Rewritten c) = accepted_counts n c
-counts_for n (Refused k) = zeros n
+counts_for n (Ok (Ok (Untouched c))) = accepted_counts n c
+counts_for n (Ok (Ok (Rewritten c))) = accepted_counts n c
+counts_for n (Err k) = zeros n
 
 -- a number as a yes or no: 0 for no, any other for yes
 abbrev pub is_yes : ℕ → Bool

@@ -7,7 +7,7 @@ ghost use Rattle.collector.specs.Call.{count_of, presence_of, count_bytes, is_un
 
 use readers::tables::clear_bytes;
 use rewriting::collect::{Collected, Counts};
-use rewriting::lists::ListCount;
+
 use rewriting::numbers::put_big_endian;
 
 // The numbers of an accepted answer, above every refusal's, with and without room for the counts.
@@ -19,22 +19,22 @@ const REWRITTEN: u64 = 257;
 const COUNTS: usize = 59;
 
 // A list's count as a number: 0 where it is absent.
-fn count_of(list: ListCount) -> u64
+fn count_of(list: Option<usize>) -> u64
     ensures { result ≡ count_of list }
 {
     match list {
-        ListCount::Present(n) => n as u64,
-        ListCount::Absent => 0,
+        Some(n) => n as u64,
+        None => 0,
     }
 }
 
 // 1 where a list is present.
-fn presence(list: ListCount) -> u64
+fn presence(list: Option<usize>) -> u64
     ensures { result ≡ presence_of list }
 {
     match list {
-        ListCount::Present(_) => 1,
-        ListCount::Absent => 0,
+        Some(_) => 1,
+        None => 0,
     }
 }
 
@@ -94,14 +94,14 @@ fn accepted(number: u64, uncounted: u64, c: Counts, counts: &mut [u8]) -> u64
 }
 
 // The number of an answer, and its counts; zeros after a refusal, and where they have no room.
-pub(crate) fn give(answer: Collected, counts: &mut [u8]) -> u64
+pub(crate) fn give(answer: Result<Collected, u8>, counts: &mut [u8]) -> u64
     ensures answer { result ≡ number_for (length counts.old) answer }
     ensures counts { counts.new ≡ counts_for (length counts.old) answer }
 {
     clear_bytes(counts);
     match answer {
-        Collected::Untouched(c) => accepted(UNTOUCHED, UNTOUCHED + 2, c, counts),
-        Collected::Rewritten(c) => accepted(REWRITTEN, REWRITTEN + 2, c, counts),
-        Collected::Refused(n) => n as u64,
+        Ok(Collected::Untouched(c)) => accepted(UNTOUCHED, UNTOUCHED + 2, c, counts),
+        Ok(Collected::Rewritten(c)) => accepted(REWRITTEN, REWRITTEN + 2, c, counts),
+        Err(n) => n as u64,
     }
 }

@@ -1,6 +1,6 @@
 -- The five-entry unit of document 01, and the answers for it that P1 to P10 name (proofs/examples/FiveEntries.antt,
 -- `p1-to-p10`); P1 in each encoding that is read (`p1-in-every-encoding`).
-use Rattle.std.specs.Prelude.{◌≡◌, List, [], ◌∷◌, ◌++◌, Bool, true, false, ℕ, ◌+◌, ◌-◌, length, eqb, Some}
+use Rattle.std.specs.Prelude.{◌≡◌, List, [], ◌∷◌, ◌++◌, Bool, true, false, ℕ, ◌+◌, ◌-◌, length, eqb, Some, Err, Ok}
 use Rattle.readers.specs.Choice.{pick}
 use Rattle.readers.specs.Numbers.{fixed_bytes}
 use Rattle.readers.specs.Codes.{DW_FORM_addrx, DW_FORM_strp, DW_FORM_ref1, DW_FORM_ref4, DW_FORM_ref8}
@@ -11,7 +11,6 @@ use Rattle.marking.specs.declared.setting.Setting.{Setting}
 use Rattle.rewriting.specs.Places.{Place}
 use Rattle.marking.specs.Addresses.{is_tombstone}
 use Rattle.rewriting.specs.Written.{padded_answer, padded_out}
-use Rattle.rewriting.specs.declared.numbers.Padded.TheVariants.{Written, Refused as Padded'}
 use Rattle.rewriting.specs.Rewriting.{collect_of, Collected, Room, Lists, no_lists, untouched, rewritten, refused}
 use Rattle.laws.specs.KeepLists.{no_list}
 use Rattle.collector.specs.Call.{collected_of}
@@ -80,9 +79,9 @@ P1toP10 =
     × (five (2 ∷ 0 ∷ []) ≡ refused 6)
     × (five (1 ∷ []) ≡ refused 17)
     × (collect_of (sections abbreviations5 [] [] [] [] no_list (told false)) room5 false [] ≡ untouched 0 no_lists)
-    × ((padded_answer 0 1 1 ≡ Written) × (padded_out 0 1 1 ≡ 0x00 ∷ [])
-    × (padded_answer 16 2 2 ≡ Written) × (padded_out 16 2 2 ≡ 0x90 ∷ 0x00 ∷ []))
-    × (padded_answer 128 1 1 ≡ Padded' 15)
+    × ((padded_answer 0 1 1 ≡ Ok tt) × (padded_out 0 1 1 ≡ 0x00 ∷ [])
+    × (padded_answer 16 2 2 ≡ Ok tt) × (padded_out 16 2 2 ≡ 0x90 ∷ 0x00 ∷ []))
+    × (padded_answer 128 1 1 ≡ Err 15)
     × ((is_tombstone 0xffffffff 4 ≡ true) × (is_tombstone 0xffffffff 8 ≡ false) × (is_tombstone 0xffffffff 2 ≡ false))
     × (five [] ≡ untouched 5 none3)  -- document 02, Point 2
 

@@ -1,6 +1,6 @@
 -- Variables at a fixed address (document 02, Point 7): the words of `as-live-index` (proofs/fixed/FixedOperations.antt),
 -- `fixed-roots-law`, `ended-law` (FixedRoots.antt) and `fixed-kept-law` (FixedSurvivors.antt).
-use Rattle.std.specs.Prelude.{ℕ, ◌≡◌, false, List, ◌⊎◌, get_or, Some}
+use Rattle.std.specs.Prelude.{ℕ, ◌≡◌, false, List, ◌⊎◌, get_or, Some, Ok, Result}
 use Rattle.readers.specs.Codes.{DW_AT_location, DW_FORM_exprloc, DW_OP_addr, DW_TAG_variable}
 use Rattle.readers.specs.EntryAttributes.{Valued}
 use Rattle.readers.specs.Fields.{part_of}
@@ -11,8 +11,8 @@ use Rattle.readers.specs.declared.operations.Operation.{Operation}
 use Rattle.marking.specs.Addresses.{is_tombstone}
 use Rattle.marking.specs.Analysis.{Sections, tag_of, values_of_entry}
 use Rattle.marking.specs.Members.{Member}
-use Rattle.marking.specs.declared.root_test.Verdict.{Verdict}
-use Rattle.marking.specs.declared.root_test.Verdict.TheVariants.{Live, Dead}
+use Rattle.marking.specs.declared.addresses.Verdict.{Verdict}
+use Rattle.marking.specs.declared.addresses.Verdict.TheVariants.{Live, Dead}
 
 -- the places at which operations of an expression start, and its end: those nested in an operand are not among them
 pub data Outermost (e : Encoding) (s : List ℕ) : ℕ → Type 0 where
@@ -46,8 +46,8 @@ pub record FixedVariable (e : Encoding) (x : Sections) (unit : List ℕ) (y : En
   pub has : FixedLocation e unit (values_of_entry e x unit y)
 
 -- The root test of an entry where fixed addresses do not count, and where they do; Has is that it is such a variable.
-pub record AlsoRoot (off on : Verdict) (Has : Type 0) : Type 0 where
+pub record AlsoRoot (off on : Result Verdict ℕ) (Has : Type 0) : Type 0 where
   -- "is also a root if ..": it is not dead
-  pub also : Has → on ≡ Dead → ⊥
+  pub also : Has → on ≡ Ok Dead → ⊥
   -- and by nothing else: the verdict, a refusal too, is the one without the choice, or it is live and this the reason
-  pub only : (on ≡ off) ⊎ ((on ≡ Live) × Has)
+  pub only : (on ≡ off) ⊎ ((on ≡ Ok Live) × Has)

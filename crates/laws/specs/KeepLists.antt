@@ -1,5 +1,5 @@
 -- Keep lists (document 02, Point 10): the words of the laws in proofs/keep.
-use Rattle.std.specs.Prelude.{◌≡◌, ℕ, suc, ◌≤◌, ◌<◌, List, [], ◌∷◌, length, get_or, Ok, Some}
+use Rattle.std.specs.Prelude.{◌≡◌, ℕ, suc, ◌≤◌, ◌<◌, List, [], ◌∷◌, length, get_or, Ok, Some, Err, Result}
 use Rattle.readers.specs.Abbreviations.{Placed, abbreviations_of}
 use Rattle.readers.specs.Header.{header_of}
 use Rattle.readers.specs.declared.entries.Entry.{Entry}
@@ -8,8 +8,8 @@ use Rattle.marking.specs.EntryRows.{unit_items}
 use Rattle.marking.specs.KeepList.{KeepList, always_root, never_root, treatment_of}
 use Rattle.marking.specs.Analysis.{Sections, sections, EntryRow, tag_of, Analysed, analysed, refused as not_analysed}
 use Rattle.laws.specs.UnitSurvivors.{ParentIn, RootIn, NamesIn, Below, EntryAt}
-use Rattle.marking.specs.declared.root_test.Verdict.{Verdict}
-use Rattle.marking.specs.declared.root_test.Verdict.TheVariants.{Live, Dead, Refused}
+use Rattle.marking.specs.declared.addresses.Verdict.{Verdict}
+use Rattle.marking.specs.declared.addresses.Verdict.TheVariants.{Live, Dead}
 
 -- the same sections with another keep list
 abbrev pub with_keep : Sections → KeepList → Sections
@@ -43,20 +43,20 @@ pub record Treats (keep : KeepList) (tag k : ℕ) : Type 0 where
   pub treatment_is : get_or keep.treatments at 0 ≡ k
 
 -- a verdict that is no refusal
-abbrev pub Decided : Verdict → Type 0
-Decided v = (n : ℕ) → v ≡ Refused n → ⊥
+abbrev pub Decided : Result Verdict ℕ → Type 0
+Decided v = (n : ℕ) → v ≡ Err n → ⊥
 
 -- What an entry's tag does to the verdict of its root test, by a list that is taken.
-pub record TreatedBy (keep : KeepList) (tag : ℕ) (test root : Verdict) : Type 0 where
+pub record TreatedBy (keep : KeepList) (tag : ℕ) (test root : Result Verdict ℕ) : Type 0 where
   -- "1 always a root"
-  pub always : Treats keep tag always_root → Decided test → root ≡ Live
+  pub always : Treats keep tag always_root → Decided test → root ≡ Ok Live
   -- "2 never a root"
-  pub never : Treats keep tag never_root → Decided test → root ≡ Dead
+  pub never : Treats keep tag never_root → Decided test → root ≡ Ok Dead
   -- "Tags not listed are judged as before"
   pub unlisted : ((k : ℕ) → Treats keep tag k → ⊥) → root ≡ test
   -- "Every entry still goes through the root test, so malformed ones are refused under every treatment": and no others
-  pub refused : (n : ℕ) → test ≡ Refused n → root ≡ Refused n
-  pub no_other : (n : ℕ) → root ≡ Refused n → test ≡ Refused n
+  pub refused : (n : ℕ) → test ≡ Err n → root ≡ Err n
+  pub no_other : (n : ℕ) → root ≡ Err n → test ≡ Err n
 
 -- How an entry that is no root survives: "Treatment 2 doesn't stop an entry from being kept through a reference or its
 -- family". S are the survivors.

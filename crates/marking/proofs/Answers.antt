@@ -12,7 +12,7 @@ use Rattle.readers.specs.Nesting.{no_parent}
 use Rattle.marking.specs.Graph.{Graph, graph, size, references, parent_fits, pair_fits, root_fits, well_formed, takes}
 use Rattle.marking.specs.Marks.{is_kept, kept_count, marks_of, end_marks, mark_answer}
 use Rattle.marking.specs.Inner.Passes.{sum, Sound, Settled, ParentsFit, PairsFit, end_first}
-use Rattle.marking.specs.declared.marks.Marked.TheVariants.{Kept, Refused}
+use Rattle.std.specs.Prelude.{Err, Ok}
 use Rattle.marking.proofs.Tests.{and-out, and_in, or_inl, or_inr}
 use Rattle.marking.proofs.Graphs.{WellFormed, well-formed}
 use Rattle.marking.proofs.Settled.{settled-marks}
@@ -110,7 +110,7 @@ sound-sum g m s = omega (arith, sum-three m s.most, s.long)
 
 -- ---- what `mark` ensures
 
-pub refused-answer : (g : Graph) (n : ℕ) → takes g n ≡ false → Refused 16 ≡ mark_answer g n
+pub refused-answer : (g : Graph) (n : ℕ) → takes g n ≡ false → Err 16 ≡ mark_answer g n
 unfolding mark_answer pick
 refused-answer g n e = rw e
 
@@ -126,6 +126,6 @@ module _ (g : Graph) (n : ℕ) (m m' : List ℕ) (t : takes g n ≡ true) (s : S
   unfolding end_marks pick
   marked-marks = rw t made
 
-  pub marked-answer : (k : ℕ) → k ≡ kept_count m' → Kept k ≡ mark_answer g n
+  pub marked-answer : (k : ℕ) → k ≡ kept_count m' → Ok k ≡ mark_answer g n
   unfolding mark_answer pick
-  marked-answer k h = rw t (ap Kept (h ∙ ap kept_count made))
+  marked-answer k h = rw t (ap Ok (h ∙ ap kept_count made))

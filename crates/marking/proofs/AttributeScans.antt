@@ -11,7 +11,7 @@ use Rattle.readers.specs.Choice.{pick, ◌and◌}
 use Rattle.readers.specs.Abbreviations.{spec_at}
 use Rattle.readers.specs.Entries.{values_at}
 use Rattle.readers.specs.Lists.{list_offset, list_start}
-use Rattle.std.specs.Prelude.{None, Option, Some}
+use Rattle.std.specs.Prelude.{None, Option, Some, Err, Ok, Result}
 use Rattle.readers.specs.declared.cursor.Cursor.{Cursor}
 use Rattle.readers.specs.declared.cursor.Encoding.{Encoding}
 use Rattle.readers.specs.EntryAttributes.{Valued, entry_values, next_attribute}
@@ -21,10 +21,8 @@ use Rattle.readers.specs.declared.entry_attributes.EntryAttribute.{EntryAttribut
 use Rattle.readers.proofs.EntryAttributes.{stepped, stepped-on, ends_on, no_more, stop-end}
 use Rattle.marking.specs.ReferenceTable.{next_place, written, table_after, scanned_to, entry_scanned}
 use Rattle.marking.specs.Inner.ReferenceTable.{valued_by}
-use Rattle.marking.specs.declared.references.Scanned.{Scanned}
-use Rattle.marking.specs.declared.references.Scanned.TheVariants.{To, Refused}
 use Rattle.marking.specs.declared.references.EntryScan.{EntryScan}
-use Rattle.marking.specs.declared.references.EntryScan.TheVariants.{Through, Refused as Refused'}
+use Rattle.marking.specs.ReferenceTable.{through}
 use Rattle.marking.proofs.Placing.{Put, put-none, put_one, put-size}
 use Rattle.marking.proofs.Founds.{Scans, scans-same, scans-none, scans-no, scans-put, scans-refused, Onto, onto, Broken, broken, after_none, after-after}
 
@@ -44,17 +42,17 @@ pub form-above : (form : ℕ) → 0x15 < form → (leb 0x11 form and leb form 0x
 form-above form h = ap (λ b. leb 0x11 form and b) (lt-leb form 0x15 h) ∙ and-false (leb 0x11 form)
 
 module _ (e : Encoding) (l : Locations) (a : Valued) (table : List ℕ) (at : ℕ) where
-  pub attribute-sibling : a.name ≡ 0x01 → Scans table at (attribute_found e l a) (To at) table
+  pub attribute-sibling : a.name ≡ 0x01 → Scans table at (attribute_found e l a) (Ok at) table
   unfolding attribute_found pick
   attribute-sibling k = scans-none table at (attribute_found e l a) (rw (eq-eqb a.name 0x01 k))
 
   module _ (k : a.name ≡ 0x01 → ⊥) where
-    pub attribute-absolute : a.declared ≡ 0x10 → Scans table at (attribute_found e l a) (Refused 7) table
+    pub attribute-absolute : a.declared ≡ 0x10 → Scans table at (attribute_found e l a) (Err 7) table
     unfolding attribute_found pick
     attribute-absolute d = scans-no table at (attribute_found e l a) 7 (rw (ne_eqb a.name 0x01 k, eq-eqb a.declared 0x10 d))
 
     module _ (d : a.declared ≡ 0x10 → ⊥) where
-      pub attribute-expression : a.value.form ≡ 0x18 → (part : List ℕ) → part ≡ part_of l.unit a.value.field → (w : Scanned) (table' : List ℕ)
+      pub attribute-expression : a.value.form ≡ 0x18 → (part : List ℕ) → part ≡ part_of l.unit a.value.field → (w : Result ℕ ℕ) (table' : List ℕ)
           → Scans table at (expression_found e part) w table' → Scans table at (attribute_found e l a) w table'
       unfolding attribute_found pick
       attribute-expression f part p w table' h =
@@ -63,7 +61,7 @@ module _ (e : Encoding) (l : Locations) (a : Valued) (table : List ℕ) (at : �
           scans-same table at (attribute_found e l a) (expression_found e part) (i ∙ ap (expression_found e) (sym p)) w table' h
 
       pub attribute-reference : 0x11 ≤ a.value.form → a.value.form ≤ 0x15 → (to : ℕ) (table' : List ℕ)
-          → (to ≡ next_place (length table) at) × (table' ≡ set table at a.value.field.value) → Scans table at (attribute_found e l a) (To to) table'
+          → (to ≡ next_place (length table) at) × (table' ≡ set table at a.value.field.value) → Scans table at (attribute_found e l a) (Ok to) table'
       unfolding attribute_found pick ◌and◌
       attribute-reference lo hi to table' h =
           scans-put table at (attribute_found e l a) (a.value.field.value ∷ []) table' to
@@ -71,14 +69,14 @@ module _ (e : Encoding) (l : Locations) (a : Valued) (table : List ℕ) (at : �
           (put_one table at [] table at (put-none table at) a.value.field.value table' to h.0 h.1)
 
       module _ (f : a.value.form ≡ 0x18 → ⊥) (o : (leb 0x11 a.value.form and leb a.value.form 0x15) ≡ false) where
-        pub attribute-other : (a.name ≡ 0x02 → ⊥) → Scans table at (attribute_found e l a) (To at) table
+        pub attribute-other : (a.name ≡ 0x02 → ⊥) → Scans table at (attribute_found e l a) (Ok at) table
         unfolding attribute_found pick
         attribute-other n =
             scans-none table at (attribute_found e l a)
             (rw (ne_eqb a.name 0x01 k, ne_eqb a.declared 0x10 d, o, ne_eqb a.value.form 0x18 f, ne_eqb a.name 0x02 n))
 
         module _ (n : a.name ≡ 0x02) where
-          module _ (start : Option Cursor) (w : Scanned) (table' : List ℕ) (h : Scans table at (list_found e l.locations start) w table') where
+          module _ (start : Option Cursor) (w : Result ℕ ℕ) (table' : List ℕ) (h : Scans table at (list_found e l.locations start) w table') where
             pub attribute-index : a.value.form ≡ 0x22 → start ≡ list_offset e l.locations l.loclists_base a.value.field.value → Scans table at (attribute_found e l a) w table'
             unfolding attribute_found pick
             attribute-index g p =
@@ -102,7 +100,7 @@ module _ (e : Encoding) (l : Locations) (a : Valued) (table : List ℕ) (at : �
                 ) in
                 scans-same table at (attribute_found e l a) (list_found e l.locations start) (i ∙ ap (list_found e l.locations) (sym p)) w table' h
 
-          pub attribute-plain : (a.value.form ≡ 0x22 → ⊥) → (a.value.form ≡ 0x17 → ⊥) → Scans table at (attribute_found e l a) (To at) table
+          pub attribute-plain : (a.value.form ≡ 0x22 → ⊥) → (a.value.form ≡ 0x17 → ⊥) → Scans table at (attribute_found e l a) (Ok at) table
           unfolding attribute_found pick
           attribute-plain g g' =
               scans-none table at (attribute_found e l a)
@@ -119,7 +117,7 @@ module _ (e : Encoding) (l : Locations) (a : Valued) (table : List ℕ) (at : �
 -- ---- the loop over the attributes: what is in the table, and what is found from here on
 
 -- a scan whose values end there
-abbrev EntryScans : List ℕ → ℕ → ReferencesFound → Option Cursor → EntryScan → List ℕ → Type 0
+abbrev EntryScans : List ℕ → ℕ → ReferencesFound → Option Cursor → Result EntryScan ℕ → List ℕ → Type 0
 EntryScans table at f end w table' = (w ≡ entry_scanned (scanned_to (length table) at f) end) × (table' ≡ table_after table at f)
 
 pub record Scanning (e : Encoding) (l : Locations) (s table₀ : List ℕ) (p₀ from₀ at : ℕ) (table : List ℕ) (p from to : ℕ) : Type 0 where
@@ -143,7 +141,7 @@ module _ (e : Encoding) (l : Locations) (s table₀ : List ℕ) (p₀ from₀ at
     scanning-size = put-size table₀ at h.sofar table to h.put
 
     module _ (n : Option EntryAttribute) (q : n ≡ next_attribute e s p l.unit from) where
-      scanned-all : n ≡ None → Scans table₀ at all (To to) table
+      scanned-all : n ≡ None → Scans table₀ at all (Ok to) table
       unfolding after attributes_found
       scanned-all r =
           scans-put table₀ at all h.sofar table to
@@ -152,10 +150,10 @@ module _ (e : Encoding) (l : Locations) (s table₀ : List ℕ) (p₀ from₀ at
           ∙ ap found (append-nil h.sofar))
           h.put
 
-      pub scanning-end : n ≡ None → (end : Option Cursor) → end ≡ end_by from (spec_at s p) → EntryScans table₀ at all past (Through to end) table
+      pub scanning-end : n ≡ None → (end : Option Cursor) → end ≡ end_by from (spec_at s p) → EntryScans table₀ at all past (through to end) table
       unfolding entry_scanned
       scanning-end r end k = (
-        ap (Through to) (k ∙ stop-end e s p l.unit from (sym q ∙ r) ∙ sym h.ends) ∙ ap (λ w. entry_scanned w past) (scanned-all r).0,
+        ap (through to) (k ∙ stop-end e s p l.unit from (sym q ∙ r) ∙ sym h.ends) ∙ ap (λ w. entry_scanned w past) (scanned-all r).0,
         (scanned-all r).1,
       )
 
@@ -173,19 +171,19 @@ module _ (e : Encoding) (l : Locations) (s table₀ : List ℕ) (p₀ from₀ at
             ∙ ap (λ v. after h.sofar (attributes_found e l v)) (stepped-on e s p l.unit from x (sym q ∙ r))
             ∙ ap (λ g. after h.sofar (and_then g rest)) k
 
-        module _ (w : Scanned) (table' : List ℕ) (k : Scans table to (attribute_found e l (valued_by x)) w table') where
-          refused_all : (m : ℕ) → w ≡ Refused m → Scans table₀ at all (Refused m) table'
+        module _ (w : Result ℕ ℕ) (table' : List ℕ) (k : Scans table to (attribute_found e l (valued_by x)) w table') where
+          refused_all : (m : ℕ) → w ≡ Err m → Scans table₀ at all (Err m) table'
           unfolding Broken and_then after
           refused_all m g =
               let b : (ys : List ℕ) × (attribute_found e l (valued_by x) ≡ refused ys m) × (table' ≡ written table₀ at (h.sofar ++ ys)) =
               broken table₀ at h.sofar table to h.put w table' (attribute_found e l (valued_by x)) k m g in
               scans-refused table₀ at all (h.sofar ++ b.0) table' m (whole-turn (refused b.0 m) b.1) b.2
 
-          pub scanning-refused : (m : ℕ) → w ≡ Refused m → EntryScans table₀ at all past (Refused' m) table'
+          pub scanning-refused : (m : ℕ) → w ≡ Err m → EntryScans table₀ at all past (Err m) table'
           unfolding entry_scanned
           scanning-refused m g = (ap (λ w. entry_scanned w past) (refused_all m g).0, (refused_all m g).1)
 
-          pub scanning-on : (to' : ℕ) → w ≡ To to' → Scanning e l s table₀ p₀ from₀ at table' x.next.at x.values.at to'
+          pub scanning-on : (to' : ℕ) → w ≡ Ok to' → Scanning e l s table₀ p₀ from₀ at table' x.next.at x.values.at to'
           unfolding Onto and_then
           scanning-on to' g =
               let b : (ys : List ℕ) × (attribute_found e l (valued_by x) ≡ found ys) × Put table₀ at (h.sofar ++ ys) table' to' =

@@ -3,7 +3,7 @@ use mathlib.Core.Path.{◌≡◌, refl, ap, sym, ◌∙◌}
 use Prim.Native.Nat.{ℕ, suc, ◌+◌}
 use mathlib.Core.Bool.{Bool, true, false}
 use mathlib.Core.List.{List, [], ◌∷◌}
-use Rattle.std.specs.Prelude.{Ok, Option, Some}
+use Rattle.std.specs.Prelude.{Ok, Option, Some, Err, Result}
 use mathlib.Core.Logic.{inl, inr}
 use lib.ListN.{length, take}
 use lib.Dec.{ltb, leb}
@@ -17,8 +17,8 @@ use Rattle.readers.specs.declared.cursor.Encoding.{Encoding}
 use Rattle.readers.specs.declared.entries.Entry.{Entry}
 use Rattle.readers.specs.declared.header.UnitHeader.{UnitHeader}
 use Rattle.marking.specs.EntryReferences.{ReferencesFound, found, refused as refused_after}
-use Rattle.marking.specs.declared.root_test.Verdict.{Verdict}
-use Rattle.marking.specs.declared.root_test.Verdict.TheVariants.{Live, Dead, Refused as Failed}
+use Rattle.marking.specs.declared.addresses.Verdict.{Verdict}
+use Rattle.marking.specs.declared.addresses.Verdict.TheVariants.{Live, Dead}
 use Rattle.marking.specs.Analysis.{Sections, Rooms, EntryRow, Analysed, analysed, on_verdict, on_found, Reached, reached, start_of, analyse_items, on_declared, unit_analysed, header_analysed, analysis_of, root_of, names_of, base_of}
 use Rattle.marking.specs.EntryRows.{Tested, RowOf, RowsOf, unit_items}
 use Rattle.marking.proofs.Rows.{Gives, gives_of, gives-onto, gives-map, gives-refused, UnitRows, unit-rows}
@@ -29,11 +29,11 @@ unfolding Gives on_found
 gives-names P (found xs) k h = h xs refl
 gives-names P (refused_after xs n) k h = tt
 
-gives-root : (P : List EntryRow → Type 0) (v : Verdict) (k : ℕ → Analysed) → ((root : ℕ) → Tested v root → Gives P (k root)) → Gives P (on_verdict v k)
+gives-root : (P : List EntryRow → Type 0) (v : Result Verdict ℕ) (k : ℕ → Analysed) → ((root : ℕ) → Tested v root → Gives P (k root)) → Gives P (on_verdict v k)
 unfolding Gives on_verdict
-gives-root P Live k h = h 1 (inl (refl, refl))
-gives-root P Dead k h = h 0 (inr (refl, refl))
-gives-root P (Failed n) k h = tt
+gives-root P (Ok Live) k h = h 1 (inl (refl, refl))
+gives-root P (Ok Dead) k h = h 0 (inr (refl, refl))
+gives-root P (Err n) k h = tt
 
 module _ (e : Encoding) (x : Sections) (unit : List ℕ) where
   -- the rows of items, and the unit's end is what follows these

@@ -10,7 +10,7 @@ use Rattle.marking.specs.Graph.{root_fits, well_formed, takes}
 use Rattle.marking.specs.Markings.{climbs, is_descendant, named_by, is_top, is_live, justified}
 use Rattle.marking.specs.Marks.{has, round, rounds, kept_of, mark_of, marks_of, is_kept, kept_count, mark_answer}
 use Rattle.marking.specs.Marks.{end_marks}
-use Rattle.marking.specs.declared.marks.Marked.TheVariants.{Kept, Refused}
+use Rattle.std.specs.Prelude.{Err, Ok}
 
 -- ---- the five-entry unit of document 01 under its address tables 01 00, 00 00, 00 01 and 01 01
 
@@ -22,7 +22,7 @@ five-entries :
     × (end_marks (five (0 ∷ 0 ∷ 0 ∷ 0 ∷ 0 ∷ [])) 5 ≡ 2 ∷ 1 ∷ 1 ∷ 1 ∷ 1 ∷ [])
     × (end_marks (five (0 ∷ 0 ∷ 0 ∷ 0 ∷ 1 ∷ [])) 5 ≡ 2 ∷ 1 ∷ 3 ∷ 1 ∷ 3 ∷ [])
     × (end_marks (five (0 ∷ 1 ∷ 0 ∷ 0 ∷ 1 ∷ [])) 5 ≡ 2 ∷ 3 ∷ 3 ∷ 3 ∷ 3 ∷ [])
-    × (mark_answer (five (0 ∷ 1 ∷ 0 ∷ 0 ∷ 0 ∷ [])) 5 ≡ Kept 3)
+    × (mark_answer (five (0 ∷ 1 ∷ 0 ∷ 0 ∷ 0 ∷ [])) 5 ≡ Ok 3)
 unfolding mark_answer kept_count is_kept count end_marks takes well_formed parent_fits pair_fits root_fits every marks_of mark_of
     kept_of rounds round has justified is_live is_top named_by is_descendant climbs names references is_root is_parent any tab
     pick ◌and◌ ◌or◌
@@ -44,11 +44,11 @@ first-entries = (refl, refl, refl, refl)
 -- last number is not judged
 
 refusals :
-    (mark_answer (graph [] (0 ∷ 0 ∷ []) []) 0 ≡ Refused 16)
-    × (mark_answer (graph (0 ∷ []) [] (0 ∷ [])) 1 ≡ Refused 16)
-    × (mark_answer (graph (no_parent ∷ []) [] (2 ∷ [])) 1 ≡ Refused 16)
-    × (mark_answer (graph (no_parent ∷ []) [] (0 ∷ [])) 0 ≡ Refused 16)
-    × (mark_answer (graph [] (7 ∷ []) []) 0 ≡ Kept 0)
+    (mark_answer (graph [] (0 ∷ 0 ∷ []) []) 0 ≡ Err 16)
+    × (mark_answer (graph (0 ∷ []) [] (0 ∷ [])) 1 ≡ Err 16)
+    × (mark_answer (graph (no_parent ∷ []) [] (2 ∷ [])) 1 ≡ Err 16)
+    × (mark_answer (graph (no_parent ∷ []) [] (0 ∷ [])) 0 ≡ Err 16)
+    × (mark_answer (graph [] (7 ∷ []) []) 0 ≡ Ok 0)
 unfolding mark_answer kept_count is_kept count takes well_formed parent_fits pair_fits root_fits every marks_of mark_of kept_of
     rounds round has justified is_live is_top named_by is_descendant climbs names references is_root is_parent any tab pick
     ◌and◌ ◌or◌

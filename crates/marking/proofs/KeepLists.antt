@@ -17,8 +17,9 @@ use Rattle.marking.specs.KeepList.{KeepList, tags_in, keep_in, is_treatment, eac
 use Rattle.marking.specs.KeepList.{treatment_in, treated}
 use Rattle.marking.specs.Resolution.{Ascending}
 use Rattle.marking.specs.Inner.Resolution.{Searched}
-use Rattle.marking.specs.declared.root_test.Verdict.{Verdict}
-use Rattle.marking.specs.declared.root_test.Verdict.TheVariants.{Live, Dead, Refused}
+use Rattle.std.specs.Prelude.{Err, Ok, Result}
+use Rattle.marking.specs.declared.addresses.Verdict.{Verdict}
+use Rattle.marking.specs.declared.addresses.Verdict.TheVariants.{Live, Dead}
 use Rattle.marking.proofs.Tests.{and-out, split}
 use Rattle.marking.proofs.Rows.{ascending-from}
 use Rattle.marking.proofs.Searches.{Halving}
@@ -188,33 +189,33 @@ module _ (tags ks : List ℕ) (ok : keep_refusal (keep_in tags ks) ≡ 0) where
 
 -- ---- what a treatment does
 
-module _ (k : ℕ) (v : Verdict) where
-  pub never-live : v ≡ Live → k ≡ 2 → Dead ≡ treated k v
+module _ (k : ℕ) (v : Result Verdict ℕ) where
+  pub never-live : v ≡ Ok Live → k ≡ 2 → Ok Dead ≡ treated k v
   unfolding treated pick
   never-live p q = rw (p, eq-eqb k 2 q)
 
-  pub still-live : v ≡ Live → (k ≡ 2 → ⊥) → Live ≡ treated k v
+  pub still-live : v ≡ Ok Live → (k ≡ 2 → ⊥) → Ok Live ≡ treated k v
   unfolding treated pick
   still-live p q = rw (p, ne_eqb k 2 q)
 
-  pub always-live : v ≡ Dead → k ≡ 1 → Live ≡ treated k v
+  pub always-live : v ≡ Ok Dead → k ≡ 1 → Ok Live ≡ treated k v
   unfolding treated pick
   always-live p q = rw (p, eq-eqb k 1 q)
 
-  pub still-dead : v ≡ Dead → (k ≡ 1 → ⊥) → Dead ≡ treated k v
+  pub still-dead : v ≡ Ok Dead → (k ≡ 1 → ⊥) → Ok Dead ≡ treated k v
   unfolding treated pick
   still-dead p q = rw (p, ne_eqb k 1 q)
 
-  pub still-refused : (n : ℕ) → v ≡ Refused n → Refused n ≡ treated k v
+  pub still-refused : (n : ℕ) → v ≡ Err n → Err n ≡ treated k v
   unfolding treated
   still-refused n p = rw p
 
 -- a tag that is not listed is judged as before
-pub untreated : (v : Verdict) → treated 0 v ≡ v
+pub untreated : (v : Result Verdict ℕ) → treated 0 v ≡ v
 unfolding treated pick
-untreated Live = refl
-untreated Dead = refl
-untreated (Refused n) = refl
+untreated (Ok Live) = refl
+untreated (Ok Dead) = refl
+untreated (Err n) = refl
 
-pub treated-by : {r v v' : Verdict} {k k' : ℕ} → r ≡ treated k v → k ≡ k' → v ≡ v' → r ≡ treated k' v'
+pub treated-by : {r v v' : Result Verdict ℕ} {k k' : ℕ} → r ≡ treated k v → k ≡ k' → v ≡ v' → r ≡ treated k' v'
 treated-by r p q = r ∙ ap₂ treated p q

@@ -9,7 +9,7 @@ use Rattle.readers.specs.Steps.{list_entry_at}
 use Rattle.readers.proofs.Steps.{entry-inside}
 use Rattle.readers.specs.declared.cursor.Encoding.{Encoding}
 use Rattle.readers.specs.declared.cursor.Cursor.{Cursor}
-use Rattle.std.specs.Prelude.{None, Option, Some}
+use Rattle.std.specs.Prelude.{None, Option, Some, Err, Ok, Result}
 use Rattle.readers.specs.declared.operations.ListStep.{ListStep}
 use Rattle.readers.specs.declared.operations.ListEntry.{ListEntry}
 use Rattle.readers.specs.declared.operations.ListStep.TheVariants.{Entry, End}
@@ -17,8 +17,6 @@ use Rattle.marking.specs.Walking.{Next, on_next, walk}
 use Rattle.marking.proofs.Walking.{Forward, walk_step}
 use Rattle.marking.specs.EntryReferences.{ReferencesFound, found, refused, ListReached, reached_at, location_found, on_location, location_step, list_found}
 use Rattle.marking.specs.ReferenceTable.{written}
-use Rattle.marking.specs.declared.references.Scanned.{Scanned}
-use Rattle.marking.specs.declared.references.Scanned.TheVariants.{To, Refused}
 use Rattle.marking.proofs.Placing.{Put, put-none, put-size}
 use Rattle.marking.proofs.Founds.{Scans, scans-same, scans-put, scans-refused, scans-no, Onto, onto, Broken, broken}
 
@@ -90,21 +88,21 @@ module _ (e : Encoding) (s table₀ : List ℕ) (at : ℕ) where
     whole_from : list_found e s (Some c) ≡ list_from e s from h.sofar
     whole_from = list-start e s c ∙ h.whole
 
-    pub listing-end : o ≡ Some End → Scans table₀ at (list_found e s (Some c)) (To to) table
+    pub listing-end : o ≡ Some End → Scans table₀ at (list_found e s (Some c)) (Ok to) table
     listing-end r = scans-put table₀ at (list_found e s (Some c)) h.sofar table to (whole_from ∙ list-end e s from h.sofar o q r) h.put
 
-    pub listing_none : o ≡ None → Scans table₀ at (list_found e s (Some c)) (Refused 5) table
+    pub listing_none : o ≡ None → Scans table₀ at (list_found e s (Some c)) (Err 5) table
     listing_none r = scans-refused table₀ at (list_found e s (Some c)) h.sofar table 5 (whole_from ∙ list-none e s from h.sofar o q r) h.put.numbers
 
-    module _ (x : ListEntry) (r : o ≡ Some (Entry x)) (w : Scanned) (table' : List ℕ) (k : Scans table to (location_found e s x) w table') where
-      pub listing-refused : (n : ℕ) → w ≡ Refused n → Scans table₀ at (list_found e s (Some c)) (Refused n) table'
+    module _ (x : ListEntry) (r : o ≡ Some (Entry x)) (w : Result ℕ ℕ) (table' : List ℕ) (k : Scans table to (location_found e s x) w table') where
+      pub listing-refused : (n : ℕ) → w ≡ Err n → Scans table₀ at (list_found e s (Some c)) (Err n) table'
       unfolding Broken
       listing-refused n p =
           let b : (ys : List ℕ) × (location_found e s x ≡ refused ys n) × (table' ≡ written table₀ at (h.sofar ++ ys)) =
           broken table₀ at h.sofar table to h.put w table' (location_found e s x) k n p in
           scans-refused table₀ at (list_found e s (Some c)) (h.sofar ++ b.0) table' n (whole_from ∙ list-refused e s from h.sofar o q x r b.0 n b.1) b.2
 
-      pub listing-on : (to' : ℕ) → w ≡ To to' → Listing e s table₀ c.at at table' x.next.at to'
+      pub listing-on : (to' : ℕ) → w ≡ Ok to' → Listing e s table₀ c.at at table' x.next.at to'
       unfolding Onto
       listing-on to' p =
           let b : (ys : List ℕ) × (location_found e s x ≡ found ys) × Put table₀ at (h.sofar ++ ys) table' to' =
@@ -114,9 +112,9 @@ module _ (e : Encoding) (s table₀ : List ℕ) (at : ℕ) where
 -- ---- a list that may not be resolved
 
 module _ (e : Encoding) (s table : List ℕ) (at : ℕ) (start : Option Cursor) where
-  pub list_at_lem : (c : Cursor) → start ≡ Some c → (w : Scanned) (table' : List ℕ) → Scans table at (list_found e s (Some c)) w table' → Scans table at (list_found e s start) w table'
+  pub list_at_lem : (c : Cursor) → start ≡ Some c → (w : Result ℕ ℕ) (table' : List ℕ) → Scans table at (list_found e s (Some c)) w table' → Scans table at (list_found e s start) w table'
   list_at_lem c p w table' h = scans-same table at (list_found e s start) (list_found e s (Some c)) (ap (list_found e s) p) w table' h
 
-  pub list-unresolved : start ≡ None → Scans table at (list_found e s start) (Refused 5) table
+  pub list-unresolved : start ≡ None → Scans table at (list_found e s start) (Err 5) table
   unfolding list_found
   list-unresolved p = scans-no table at (list_found e s start) 5 (ap (list_found e s) p)

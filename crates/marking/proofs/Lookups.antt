@@ -9,7 +9,9 @@ use lib.Dec.{eqb}
 use borrow.Author.Tests.{lt-ltb, le-ltb, eq-eqb, ne_eqb}
 use Rattle.readers.specs.Choice.{pick, ◌or◌}
 use Rattle.marking.specs.Addresses.{is_tombstone, byte_liveness, lookup_at}
-use Rattle.marking.specs.declared.addresses.AddressLookup.TheVariants.{Live, Dead, Fails}
+use Rattle.std.specs.Prelude.{Err, Ok}
+use Rattle.marking.specs.declared.addresses.Verdict.TheVariants.{Dead}
+use Rattle.marking.specs.declared.addresses.Verdict.TheVariants.{Live}
 
 module _ (address size : ℕ) where
   pub zero-4 : size ≡ 4 → address ≡ 0 → true ≡ is_tombstone address size
@@ -33,11 +35,11 @@ module _ (address size : ℕ) where
   other-size n m = rw (ne_eqb size 4 n, ne_eqb size 8 m)
 
 module _ (table : List ℕ) (index : ℕ) where
-  pub no_table : length table ≡ 0 → Live ≡ lookup_at table index
+  pub no_table : length table ≡ 0 → Ok Live ≡ lookup_at table index
   unfolding lookup_at pick
   no_table z = rw (eq-eqb (length table) 0 z)
 
-  pub past-table : (length table ≡ 0 → ⊥) → length table ≤ index → Fails 17 ≡ lookup_at table index
+  pub past-table : (length table ≡ 0 → ⊥) → length table ≤ index → Err 17 ≡ lookup_at table index
   unfolding lookup_at pick
   past-table n h = rw (ne_eqb (length table) 0 n, le-ltb index (length table) h)
 
@@ -45,16 +47,16 @@ module _ (table : List ℕ) (index : ℕ) where
     some-table : eqb (length table) 0 ≡ false
     some-table = ne_eqb (length table) 0 (λ z. omega arith)
 
-    pub byte-zero : get_or table index 0 ≡ 0 → Dead ≡ lookup_at table index
+    pub byte-zero : get_or table index 0 ≡ 0 → Ok Dead ≡ lookup_at table index
     unfolding lookup_at byte_liveness pick
     byte-zero z = rw (some-table, lt-ltb index (length table) h, eq-eqb (get_or table index 0) 0 z)
 
-    pub byte_one : (get_or table index 0 ≡ 0 → ⊥) → get_or table index 0 ≡ 1 → Live ≡ lookup_at table index
+    pub byte_one : (get_or table index 0 ≡ 0 → ⊥) → get_or table index 0 ≡ 1 → Ok Live ≡ lookup_at table index
     unfolding lookup_at byte_liveness pick
     byte_one z o =
         rw (some-table, lt-ltb index (length table) h, ne_eqb (get_or table index 0) 0 z, eq-eqb (get_or table index 0) 1 o)
 
-    pub byte-other : (get_or table index 0 ≡ 0 → ⊥) → (get_or table index 0 ≡ 1 → ⊥) → Fails 6 ≡ lookup_at table index
+    pub byte-other : (get_or table index 0 ≡ 0 → ⊥) → (get_or table index 0 ≡ 1 → ⊥) → Err 6 ≡ lookup_at table index
     unfolding lookup_at byte_liveness pick
     byte-other z o =
         rw (some-table, lt-ltb index (length table) h, ne_eqb (get_or table index 0) 0 z, ne_eqb (get_or table index 0) 1 o)

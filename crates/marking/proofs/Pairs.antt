@@ -10,8 +10,6 @@ use Rattle.readers.specs.declared.offsets.EntryIndex.{EntryIndex}
 use Rattle.readers.specs.Choice.{put}
 use Rattle.marking.specs.Resolution.{entry_from, pair_for, pairs_of_entry}
 use Rattle.marking.specs.Inner.Resolution.{as_entry, ResolveInput}
-use Rattle.marking.specs.declared.units.EntryFound.{EntryFound}
-use Rattle.marking.specs.declared.units.EntryFound.TheVariants.{Entry, Nothing}
 
 -- ---- numbers put in place of others
 
@@ -78,12 +76,12 @@ pairs-few os i (t ∷ ts) =
     let a = length-append (pair_for i (entry_from 0 os t)) (pairs_of_entry os i ts) in
     omega (arith, a, pair-few i (entry_from 0 os t), pairs-few os i ts)
 
-entry-is : (o : Option ℕ) (x : EntryIndex) → Entry x ≡ as_entry o → o ≡ Some x.0
+entry-is : (o : Option ℕ) (x : EntryIndex) → Some x ≡ as_entry o → o ≡ Some x.0
 unfolding as_entry
 entry-is None x q = let z : ◌≡◌ {A = ℕ} 0 1 = cc in absurd (omega arith)
 entry-is (Some t) x q = let z : x ≡ record { 0 = t } = cc in ap (λ (y : EntryIndex). Some y.0) (sym z)
 
-none_is : (o : Option ℕ) → Nothing ≡ as_entry o → o ≡ None
+none_is : (o : Option ℕ) → None ≡ as_entry o → o ≡ None
 unfolding as_entry
 none_is None q = refl
 none_is (Some t) q = let z : ◌≡◌ {A = ℕ} 0 1 = cc in absurd (omega arith)
@@ -142,11 +140,11 @@ module _ (offsets : List ℕ) (n : ℕ) (targets : List ℕ) (from to holder : �
     pub pairing-room : j < to → 2 * place + 2 ≤ length pairs
     pairing-room h = omega (arith, p.most, p.low, p.size, p.ready.room)
 
-    module _ (h : j < to) (r : EntryFound) (q : r ≡ as_entry (entry_from 0 (take n offsets) (get_or targets j 0))) where
+    module _ (h : j < to) (r : Option EntryIndex) (q : r ≡ as_entry (entry_from 0 (take n offsets) (get_or targets j 0))) where
       inside : j < length targets
       inside = omega (arith, p.ready.inside)
 
-      pub pairing-none : r ≡ Nothing → Pairing pairs place (j + 1)
+      pub pairing-none : r ≡ None → Pairing pairs place (j + 1)
       unfolding pair_for
       pairing-none k =
           let same : made (j + 1) ≡ made j =
@@ -161,7 +159,7 @@ module _ (offsets : List ℕ) (n : ℕ) (targets : List ℕ) (from to holder : �
             size = p.size;
           }
 
-      pub pairing-more : (x : EntryIndex) → r ≡ Entry x → Pairing (set (set pairs (2 * place) holder) (2 * place + 1) x.0) (place + 1) (j + 1)
+      pub pairing-more : (x : EntryIndex) → r ≡ Some x → Pairing (set (set pairs (2 * place) holder) (2 * place + 1) x.0) (place + 1) (j + 1)
       unfolding pair_for
       pairing-more x k =
           let more : made (j + 1) ≡ made j ++ (holder ∷ x.0 ∷ []) =

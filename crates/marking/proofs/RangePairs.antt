@@ -20,7 +20,7 @@ use Rattle.readers.proofs.Tokens.{Fields, row-fields, Inside, row_inside, inside
 use Rattle.readers.proofs.Widths.{fixed-is, fixed-inside}
 use Rattle.readers.specs.declared.cursor.Cursor.{Cursor}
 use Rattle.readers.specs.declared.cursor.Encoding.{Encoding}
-use Rattle.std.specs.Prelude.{None, Option, Some}
+use Rattle.std.specs.Prelude.{None, Option, Some, Err, Ok, Result}
 use Rattle.readers.specs.declared.fields.Field.{Field}
 use Rattle.readers.specs.declared.fields.Operands.{Operands}
 use Rattle.marking.specs.Addresses.{is_tombstone}
@@ -30,8 +30,8 @@ use Rattle.marking.proofs.Lists.{Heads, on-turn, decided-turn}
 use Rattle.marking.specs.Roots.{Flagged, place, RootTurn, past_pair, turn_of, range_pair, pair_step, pairs_live}
 use Rattle.marking.specs.declared.root_test.RangeTurn.{RangeTurn}
 use Rattle.marking.specs.declared.root_test.RangeTurn.TheVariants.{On, Decided}
-use Rattle.marking.specs.declared.root_test.Verdict.{Verdict}
-use Rattle.marking.specs.declared.root_test.Verdict.TheVariants.{Live as is_live, Dead as is_dead, Refused as refused}
+use Rattle.marking.specs.declared.addresses.Verdict.{Verdict}
+use Rattle.marking.specs.declared.addresses.Verdict.TheVariants.{Live as is_live, Dead as is_dead}
 
 -- ---- where a pair ends
 
@@ -95,7 +95,7 @@ module _ (e : Encoding) (dead : Bool) (r : Operands) where
   abbrev end : ℕ
   end = r.second.value
 
-  pub pair_end : begin ≡ 0 → end ≡ 0 → Decided is_dead ≡ turn_of (range_pair e dead r)
+  pub pair_end : begin ≡ 0 → end ≡ 0 → Decided (Ok is_dead) ≡ turn_of (range_pair e dead r)
   unfolding range_pair turn_of pick ◌and◌
   pair_end a b = rw (eq-eqb begin 0 a, eq-eqb end 0 b)
 
@@ -106,7 +106,7 @@ module _ (e : Encoding) (dead : Bool) (r : Operands) where
 
     -- neither the end nor a base
     module _ (plain : ((begin ≡ 0) × (end ≡ 0 → ⊥)) ⊎ ((begin ≡ 0 → ⊥) × (b ≡ false))) where
-      pair-plain : range_pair e dead r ≡ pick (dead or b) (past_pair r dead) (stop is_live)
+      pair-plain : range_pair e dead r ≡ pick (dead or b) (past_pair r dead) (stop (Ok is_live))
       unfolding range_pair pick ◌and◌ ◌or◌
       pair-plain =
           ⊎_elim
@@ -122,30 +122,30 @@ module _ (e : Encoding) (dead : Bool) (r : Operands) where
       unfolding turn_of pick ◌or◌
       pair-left-out d t = sym (ap turn_of pair-plain ∙ rw (d, t))
 
-      pub pair-kept : dead ≡ false → b ≡ false → Decided is_live ≡ turn_of (range_pair e dead r)
+      pub pair-kept : dead ≡ false → b ≡ false → Decided (Ok is_live) ≡ turn_of (range_pair e dead r)
       unfolding turn_of pick ◌or◌
       pair-kept d t = sym (ap turn_of pair-plain ∙ rw (d, t))
 
   pair-heads : Heads r.third.end (range_pair e dead r)
   unfolding range_pair Heads
   pair-heads =
-      pick-either (Heads r.third.end) (eqb begin 0 and eqb end 0) (stop is_dead) _ (λ t. tt)
+      pick-either (Heads r.third.end) (eqb begin 0 and eqb end 0) (stop (Ok is_dead)) _ (λ t. tt)
       (λ t. pick-either (Heads r.third.end) (is_tombstone begin e.address_size and not (eqb begin 0)) (past_pair r _) _ (λ t. refl)
-      (λ t. pick-either (Heads r.third.end) (dead or is_tombstone begin e.address_size) (past_pair r dead) (stop is_live) (λ t. refl) (λ t. tt)))
+      (λ t. pick-either (Heads r.third.end) (dead or is_tombstone begin e.address_size) (past_pair r dead) (stop (Ok is_live)) (λ t. refl) (λ t. tt)))
 
   -- where it goes on, its numbers are not both 0
   pair-some : (b : Bool) → On b ≡ turn_of (range_pair e dead r) → (begin ≡ 0) × (end ≡ 0) → ⊥
-  pair-some b q z = let y : On b ≡ Decided is_dead = q ∙ sym (pair_end z.0 z.1) in let z : ◌≡◌ {A = ℕ} 0 1 = cc in omega (arith, z)
+  pair-some b q z = let y : On b ≡ Decided (Ok is_dead) = q ∙ sym (pair_end z.0 z.1) in let z : ◌≡◌ {A = ℕ} 0 1 = cc in omega (arith, z)
 
 -- ---- a list
 
 module _ (e : Encoding) (s : List ℕ) where
   abbrev pair_turn : Flagged → RootTurn
-  pair_turn p = pick (ltb p.at (length s)) (pair_step e p.flag (row_at e s p.at 23)) (stop is_dead)
+  pair_turn p = pick (ltb p.at (length s)) (pair_step e p.flag (row_at e s p.at 23)) (stop (Ok is_dead))
 
   -- the answer from a place on, where the latest base was dead or not
-  unfoldable pub pairs_from : ℕ → Bool → Verdict
-  pairs_from at dead = walk place (length s) pair_turn is_dead (record { at = at; flag = dead })
+  unfoldable pub pairs_from : ℕ → Bool → Result Verdict ℕ
+  pairs_from at dead = walk place (length s) pair_turn (Ok is_dead) (record { at = at; flag = dead })
 
   pub pairs_start : (c : Cursor) → pairs_live e s (Some c) ≡ pairs_from c.at false
   unfolding pairs_live pairs_from
@@ -173,25 +173,25 @@ module _ (e : Encoding) (s : List ℕ) where
       (λ t. row-forward p (row_at e s p.at 23) refl (ltb_yes {a = p.at} {b = length s} t)) (λ t. tt)
 
   module _ (c : Cursor) (at : ℕ) (dead : Bool) (h : pairs_live e s (Some c) ≡ pairs_from at dead) where
-    pairs-turn : pairs_live e s (Some c) ≡ on_next (pair_turn (record { at = at; flag = dead })) (walk place (length s) pair_turn is_dead)
+    pairs-turn : pairs_live e s (Some c) ≡ on_next (pair_turn (record { at = at; flag = dead })) (walk place (length s) pair_turn (Ok is_dead))
     unfolding pairs_from
-    pairs-turn = h ∙ walk_step place (length s) pair_turn is_dead pair-forward (record { at = at; flag = dead })
+    pairs-turn = h ∙ walk_step place (length s) pair_turn (Ok is_dead) pair-forward (record { at = at; flag = dead })
 
-    pub pairs_end : length s ≤ at → is_dead ≡ pairs_live e s (Some c)
+    pub pairs_end : length s ≤ at → Ok is_dead ≡ pairs_live e s (Some c)
     unfolding on_next pick
     pairs_end n = sym (pairs-turn ∙ rw (le-ltb at (length s) n))
 
     module _ (b : at < length s) (o : Option Operands) (q : o ≡ row_at e s at 23) where
-      row-turn : pairs_live e s (Some c) ≡ on_next (pair_step e dead o) (walk place (length s) pair_turn is_dead)
+      row-turn : pairs_live e s (Some c) ≡ on_next (pair_step e dead o) (walk place (length s) pair_turn (Ok is_dead))
       unfolding pick
       row-turn = pairs-turn ∙ rw (lt-ltb at (length s) b, q)
 
-      pub pairs-none : o ≡ None → refused 5 ≡ pairs_live e s (Some c)
+      pub pairs-none : o ≡ None → Err 5 ≡ pairs_live e s (Some c)
       unfolding on_next pair_step
       pairs-none r = sym (row-turn ∙ rw r)
 
       module _ (r : Operands) (k : o ≡ Some r) (w : RangeTurn) (l : w ≡ turn_of (range_pair e dead r)) where
-        pair_turn_lem : (t : RootTurn) → range_pair e dead r ≡ t → pairs_live e s (Some c) ≡ on_next t (walk place (length s) pair_turn is_dead)
+        pair_turn_lem : (t : RootTurn) → range_pair e dead r ≡ t → pairs_live e s (Some c) ≡ on_next t (walk place (length s) pair_turn (Ok is_dead))
         unfolding pair_step
         pair_turn_lem t x = row-turn ∙ rw (k, x)
 
@@ -211,6 +211,6 @@ module _ (e : Encoding) (s : List ℕ) where
               (λ z. absurd (pair-some e dead r f (sym x ∙ l) z))
               (pair-past e s at r (sym q ∙ k))
 
-        pub pairs-decided : (v : Verdict) → w ≡ Decided v → v ≡ pairs_live e s (Some c)
+        pub pairs-decided : (v : Result Verdict ℕ) → w ≡ Decided v → v ≡ pairs_live e s (Some c)
         unfolding on_next
         pairs-decided v x = sym (pair_turn_lem (stop v) (decided-turn (range_pair e dead r) v (sym x ∙ l)))

@@ -4,7 +4,7 @@ use mathlib.Core.Path.{◌≡◌, refl, ap, sym, ◌∙◌}
 use Prim.Native.Nat.{ℕ, suc, ◌+◌}
 use mathlib.Core.Bool.{Bool, true, false}
 use mathlib.Core.List.{List, [], ◌∷◌}
-use Rattle.std.specs.Prelude.{None, Option, Some}
+use Rattle.std.specs.Prelude.{None, Option, Some, Err, Ok, Result}
 use lib.ListN.{length}
 use lib.Dec.{ltb, leb, eqb}
 use mir.Facts.{yes_eqb, no_eqb}
@@ -20,8 +20,8 @@ use Rattle.marking.specs.Analysis.{Sections, sections, ranges_for, Rooms, Reache
 use Rattle.marking.specs.EntryReferences.{ReferencesFound, found, refused as refused_after}
 use Rattle.marking.specs.KeepList.{KeepList, treatment_of, treated}
 use Rattle.marking.specs.Roots.{ranges_by, root_test}
-use Rattle.marking.specs.declared.root_test.Verdict.{Verdict}
-use Rattle.marking.specs.declared.root_test.Verdict.TheVariants.{Live, Dead, Refused as Failed}
+use Rattle.marking.specs.declared.addresses.Verdict.{Verdict}
+use Rattle.marking.specs.declared.addresses.Verdict.TheVariants.{Live, Dead}
 use Rattle.marking.specs.declared.setting.Setting.{Setting}
 
 module _ (e : Encoding) (ranges older : List ℕ) where
@@ -38,14 +38,14 @@ same-for : (e : Encoding) (s : List ℕ) → ranges_for e s s ≡ s
 unfolding ranges_for
 same-for e s = pick-either (λ (z : List ℕ). z ≡ s) (eqb e.version 4) s s (λ _. refl) (λ _. refl)
 
-verdict-same : (v w : Verdict) → v ≡ w → (k g : ℕ → Analysed) → ((n : ℕ) → k n ≡ g n) → on_verdict v k ≡ on_verdict w g
+verdict-same : (v w : Result Verdict ℕ) → v ≡ w → (k g : ℕ → Analysed) → ((n : ℕ) → k n ≡ g n) → on_verdict v k ≡ on_verdict w g
 unfolding on_verdict
-verdict-same v w q k g h = ap (λ (x : Verdict). on_verdict x k) q ∙ of w
+verdict-same v w q k g h = ap (λ (x : Result Verdict ℕ). on_verdict x k) q ∙ of w
   where
-    of : (w : Verdict) → on_verdict w k ≡ on_verdict w g
-    of Live = h 1
-    of Dead = h 0
-    of (Failed n) = refl
+    of : (w : Result Verdict ℕ) → on_verdict w k ≡ on_verdict w g
+    of (Ok Live) = h 1
+    of (Ok Dead) = h 0
+    of (Err n) = refl
 
 found-same : (f : ReferencesFound) (k g : List ℕ → Analysed) → ((xs : List ℕ) → k xs ≡ g xs) → on_found f k ≡ on_found f g
 unfolding on_found
@@ -53,7 +53,7 @@ found-same (found xs) k g h = h xs
 found-same (refused_after xs n) k g h = refl
 
 -- a root test in one section
-pub rooted : (k : ℕ) (e : Encoding) (ranges table : List ℕ) (ranges_base base : ℕ) (fixed : Bool) (unit : List ℕ) (tag : ℕ) (values : List Valued) (w : Verdict)
+pub rooted : (k : ℕ) (e : Encoding) (ranges table : List ℕ) (ranges_base base : ℕ) (fixed : Bool) (unit : List ℕ) (tag : ℕ) (values : List Valued) (w : Result Verdict ℕ)
     → w ≡ treated k (root_test e (ranges_by ranges table ranges_base base) fixed unit tag values)
     → w ≡ treated k (root_test e (ranges_by (ranges_for e ranges ranges) table ranges_base base) fixed unit tag values)
 rooted k e ranges table ranges_base base fixed unit tag values w q =

@@ -14,7 +14,7 @@ use Rattle.readers.specs.Fields.{part_of}
 use Rattle.readers.specs.Abbreviations.{spec_at}
 use Rattle.readers.specs.Entries.{attribute_at, attribute_end}
 use Rattle.readers.specs.declared.abbreviations.AttributeSpec.{AttributeSpec}
-use Rattle.std.specs.Prelude.{None, Option, Some}
+use Rattle.std.specs.Prelude.{None, Option, Some, Err, Ok, Result}
 use Rattle.readers.specs.declared.abbreviations.SpecStep.{SpecStep}
 use Rattle.readers.specs.declared.abbreviations.SpecStep.TheVariants.{Attribute as Spec, Last as LastSpec}
 use Rattle.readers.proofs.Specs.{attribute-inside}
@@ -26,8 +26,8 @@ use Rattle.readers.specs.declared.attributes.Attribute.{Attribute}
 use Rattle.marking.specs.Roots.{or_else, low_pc, low_pcs, location_live, locations, older_live, pairs_live, offset_live, other_ranges, Ranges, ranges_by, ranges_live, ranges_of, first_ranges, root_test, base_from, base_after}
 use Rattle.readers.specs.EntryAttributes.{Valued, entry_values}
 use Rattle.readers.specs.declared.entry_attributes.EntryAttribute.{EntryAttribute}
-use Rattle.marking.specs.declared.root_test.Verdict.{Verdict}
-use Rattle.marking.specs.declared.root_test.Verdict.TheVariants.{Live as is_live, Dead as is_dead, Refused as refused}
+use Rattle.marking.specs.declared.addresses.Verdict.{Verdict}
+use Rattle.marking.specs.declared.addresses.Verdict.TheVariants.{Live as is_live, Dead as is_dead}
 use Rattle.readers.proofs.EntryAttributes.{valued, values-last, values-bad, values-none, values-more}
 use Rattle.marking.specs.Inner.Named.{FirstNamed, NamedAt}
 use Rattle.marking.proofs.NamedAttributes.{passed, unread, named_end, named-turn}
@@ -62,30 +62,30 @@ module _ (e : Encoding) (table : List ℕ) where
 
   low-on : (a : Valued) (l l' : List Valued) → low_pcs e table l ≡ low_pcs e table l' → low_pcs e table (a ∷ l) ≡ low_pcs e table (a ∷ l')
   unfolding low_pcs
-  low-on a l l' k = ap (λ (w : Verdict). pick (eqb a.name 0x11) (or_else (low_pc e table a.value) w) w) k
+  low-on a l l' k = ap (λ (w : Result Verdict ℕ). pick (eqb a.name 0x11) (or_else (low_pc e table a.value) w) w) k
 
 module _ (e : Encoding) (table s unit : List ℕ) (p₀ at₀ p at : ℕ) (h : low_pcs e table (entry_values e s p₀ unit at₀) ≡ low_pcs e table (entry_values e s p unit at))
     (n : Option EntryAttribute) (q : NamedAt e s p unit at 0x11 n) where
-  pub low_end : n ≡ None → is_dead ≡ low_pcs e table (entry_values e s p₀ unit at₀)
+  pub low_end : n ≡ None → Ok is_dead ≡ low_pcs e table (entry_values e s p₀ unit at₀)
   unfolding low_pcs
   low_end r = sym (h ∙ attributes-end e s unit p at 0x11 n q (low_pcs e table) (low-out e table) (low-on e table) r)
 
-  module _ (x : EntryAttribute) (r : n ≡ Some x) (w : Verdict) (l : w ≡ low_pc e table x.value) where
+  module _ (x : EntryAttribute) (r : n ≡ Some x) (w : Result Verdict ℕ) (l : w ≡ low_pc e table x.value) where
     low-met : low_pcs e table (entry_values e s p₀ unit at₀) ≡ or_else w (low_pcs e table (entry_values e s x.next.at unit x.values.at))
     unfolding low_pcs pick
     low-met =
         h ∙ attributes-turn e s unit p at 0x11 n q (low_pcs e table) (low-out e table) (low-on e table) x r
         ∙ rw (eq-eqb x.name 0x11 (first_is e s unit p at 0x11 n q x r).named, l)
 
-    pub low-live : w ≡ is_live → is_live ≡ low_pcs e table (entry_values e s p₀ unit at₀)
+    pub low-live : w ≡ Ok is_live → Ok is_live ≡ low_pcs e table (entry_values e s p₀ unit at₀)
     unfolding or_else
     low-live v = sym (low-met ∙ rw v)
 
-    pub low-refused : (m : ℕ) → w ≡ refused m → refused m ≡ low_pcs e table (entry_values e s p₀ unit at₀)
+    pub low-refused : (m : ℕ) → w ≡ Err m → Err m ≡ low_pcs e table (entry_values e s p₀ unit at₀)
     unfolding or_else
     low-refused m v = sym (low-met ∙ rw v)
 
-    pub low-dead : w ≡ is_dead → low_pcs e table (entry_values e s p₀ unit at₀) ≡ low_pcs e table (entry_values e s x.next.at unit x.values.at)
+    pub low-dead : w ≡ Ok is_dead → low_pcs e table (entry_values e s p₀ unit at₀) ≡ low_pcs e table (entry_values e s x.next.at unit x.values.at)
     unfolding or_else
     low-dead v = low-met ∙ rw v
 
@@ -100,12 +100,12 @@ module _ (e : Encoding) (fixed : Bool) (table unit : List ℕ) where
       → locations e fixed table unit (a ∷ l) ≡ locations e fixed table unit (a ∷ l')
   unfolding locations
   locations-on a l l' k =
-      ap (λ (w : Verdict). pick (eqb a.name 0x02 and eqb a.value.form 0x18) (or_else (location_live e fixed table (part_of unit a.value.field)) w) w) k
+      ap (λ (w : Result Verdict ℕ). pick (eqb a.name 0x02 and eqb a.value.form 0x18) (or_else (location_live e fixed table (part_of unit a.value.field)) w) w) k
 
 module _ (e : Encoding) (fixed : Bool) (table s unit : List ℕ) (p₀ at₀ p at : ℕ)
     (h : locations e fixed table unit (entry_values e s p₀ unit at₀) ≡ locations e fixed table unit (entry_values e s p unit at))
     (n : Option EntryAttribute) (q : NamedAt e s p unit at 0x02 n) where
-  pub locations-end : n ≡ None → is_dead ≡ locations e fixed table unit (entry_values e s p₀ unit at₀)
+  pub locations-end : n ≡ None → Ok is_dead ≡ locations e fixed table unit (entry_values e s p₀ unit at₀)
   unfolding locations
   locations-end r =
       sym (h ∙ attributes-end e s unit p at 0x02 n q (locations e fixed table unit) (locations-out e fixed table unit) (locations-on e fixed table unit) r)
@@ -124,21 +124,21 @@ module _ (e : Encoding) (fixed : Bool) (table s unit : List ℕ) (p₀ at₀ p a
     unfolding locations pick ◌and◌
     locations-list f = locations-turn ∙ rw (eq-eqb x.name 0x02 named-location, ne_eqb x.value.form 0x18 f)
 
-    module _ (f : x.value.form ≡ 0x18) (part : List ℕ) (i : part ≡ part_of unit x.value.field) (w : Verdict) (l : w ≡ location_live e fixed table part) where
+    module _ (f : x.value.form ≡ 0x18) (part : List ℕ) (i : part ≡ part_of unit x.value.field) (w : Result Verdict ℕ) (l : w ≡ location_live e fixed table part) where
       locations-met : locations e fixed table unit (entry_values e s p₀ unit at₀)
           ≡ or_else w (locations e fixed table unit (entry_values e s x.next.at unit x.values.at))
       unfolding locations pick ◌and◌
       locations-met = locations-turn ∙ rw (eq-eqb x.name 0x02 named-location, eq-eqb x.value.form 0x18 f, l, i)
 
-      pub locations-live : w ≡ is_live → is_live ≡ locations e fixed table unit (entry_values e s p₀ unit at₀)
+      pub locations-live : w ≡ Ok is_live → Ok is_live ≡ locations e fixed table unit (entry_values e s p₀ unit at₀)
       unfolding or_else
       locations-live v = sym (locations-met ∙ rw v)
 
-      pub locations-refused : (m : ℕ) → w ≡ refused m → refused m ≡ locations e fixed table unit (entry_values e s p₀ unit at₀)
+      pub locations-refused : (m : ℕ) → w ≡ Err m → Err m ≡ locations e fixed table unit (entry_values e s p₀ unit at₀)
       unfolding or_else
       locations-refused m v = sym (locations-met ∙ rw v)
 
-      pub locations-dead : w ≡ is_dead
+      pub locations-dead : w ≡ Ok is_dead
           → locations e fixed table unit (entry_values e s p₀ unit at₀) ≡ locations e fixed table unit (entry_values e s x.next.at unit x.values.at)
       unfolding or_else
       locations-dead v = locations-met ∙ rw v
@@ -146,31 +146,31 @@ module _ (e : Encoding) (fixed : Bool) (table s unit : List ℕ) (p₀ at₀ p a
 -- ---- ranges that are not in rnglistx
 
 module _ (e : Encoding) (s : List ℕ) (base : ℕ) (v : Attribute) where
-  pub other-form : (v.form ≡ 0x17 → ⊥) → is_live ≡ other_ranges e s base v
+  pub other-form : (v.form ≡ 0x17 → ⊥) → Ok is_live ≡ other_ranges e s base v
   unfolding other_ranges pick
   other-form k = rw (ne_eqb v.form 0x17 k)
 
-  unresolved : offset_live e s None ≡ is_live
+  unresolved : offset_live e s None ≡ Ok is_live
   unfolding offset_live older_live pairs_live
-  unresolved = pick-either (λ (w : Verdict). w ≡ is_live) (eqb e.version 4) is_live is_live (λ _. refl) (λ _. refl)
+  unresolved = pick-either (λ (w : Result Verdict ℕ). w ≡ Ok is_live) (eqb e.version 4) (Ok is_live) (Ok is_live) (λ _. refl) (λ _. refl)
 
   module _ (k : v.form ≡ 0x17) where
     other_from : offset_live e s (list_start s (base + v.field.value)) ≡ other_ranges e s base v
     unfolding other_ranges pick
     other_from = rw (eq-eqb v.form 0x17 k)
 
-    pub other-past : length s < base + v.field.value → is_live ≡ other_ranges e s base v
+    pub other-past : length s < base + v.field.value → Ok is_live ≡ other_ranges e s base v
     other-past h = sym (ap (offset_live e s) (start-past s (base + v.field.value) h) ∙ unresolved) ∙ other_from
 
     module _ (o : Option Cursor) (p : o ≡ list_start s (base + v.field.value)) where
-      pub other-unresolved : o ≡ None → is_live ≡ other_ranges e s base v
+      pub other-unresolved : o ≡ None → Ok is_live ≡ other_ranges e s base v
       other-unresolved u = sym unresolved ∙ ap (offset_live e s) (sym u ∙ p) ∙ other_from
 
-      pub other-pairs : (c : Cursor) → o ≡ Some c → (w : Verdict) → e.version ≡ 4 → w ≡ pairs_live e s (Some c) → w ≡ other_ranges e s base v
+      pub other-pairs : (c : Cursor) → o ≡ Some c → (w : Result Verdict ℕ) → e.version ≡ 4 → w ≡ pairs_live e s (Some c) → w ≡ other_ranges e s base v
       unfolding offset_live
       other-pairs c u w n q = q ∙ sym (pick_yes _ _ _ (yes_eqb {a = e.version} {b = 4} n)) ∙ ap (offset_live e s) (sym u ∙ p) ∙ other_from
 
-      pub other-older : (c : Cursor) → o ≡ Some c → (w : Verdict) → (e.version ≡ 4 → ⊥) → w ≡ older_live e s (Some c) → w ≡ other_ranges e s base v
+      pub other-older : (c : Cursor) → o ≡ Some c → (w : Result Verdict ℕ) → (e.version ≡ 4 → ⊥) → w ≡ older_live e s (Some c) → w ≡ other_ranges e s base v
       unfolding offset_live
       other-older c u w n q = q ∙ sym (pick_no _ _ _ (no_eqb {a = e.version} {b = 4} n)) ∙ ap (offset_live e s) (sym u ∙ p) ∙ other_from
 
@@ -179,14 +179,14 @@ module _ (e : Encoding) (s : List ℕ) (base : ℕ) (v : Attribute) where
 module _ (e : Encoding) (ranges table : List ℕ) (rb nb : ℕ) (s unit : List ℕ) (p₀ at₀ p at : ℕ)
     (h : first_ranges e (ranges_by ranges table rb nb) (entry_values e s p₀ unit at₀) ≡ first_ranges e (ranges_by ranges table rb nb) (entry_values e s p unit at))
     (r : Option SpecStep) (q : r ≡ spec_at s p) where
-  first-none : entry_values e s p unit at ≡ [] → (w : Verdict) → w ≡ is_dead → w ≡ first_ranges e (ranges_by ranges table rb nb) (entry_values e s p₀ unit at₀)
+  first-none : entry_values e s p unit at ≡ [] → (w : Result Verdict ℕ) → w ≡ Ok is_dead → w ≡ first_ranges e (ranges_by ranges table rb nb) (entry_values e s p₀ unit at₀)
   unfolding first_ranges
   first-none k w d = d ∙ sym (h ∙ ap (first_ranges e (ranges_by ranges table rb nb)) k)
 
-  pub first-last : (c : Cursor) → r ≡ Some (LastSpec c) → (w : Verdict) → w ≡ is_dead → w ≡ first_ranges e (ranges_by ranges table rb nb) (entry_values e s p₀ unit at₀)
+  pub first-last : (c : Cursor) → r ≡ Some (LastSpec c) → (w : Result Verdict ℕ) → w ≡ Ok is_dead → w ≡ first_ranges e (ranges_by ranges table rb nb) (entry_values e s p₀ unit at₀)
   first-last c k = first-none (values-last e s p unit at c (sym q ∙ k))
 
-  pub first-bad : r ≡ None → (w : Verdict) → w ≡ is_dead → w ≡ first_ranges e (ranges_by ranges table rb nb) (entry_values e s p₀ unit at₀)
+  pub first-bad : r ≡ None → (w : Result Verdict ℕ) → w ≡ Ok is_dead → w ≡ first_ranges e (ranges_by ranges table rb nb) (entry_values e s p₀ unit at₀)
   first-bad k = first-none (values-bad e s p unit at (sym q ∙ k))
 
   module _ (a : AttributeSpec) (k : r ≡ Some (Spec a)) where
@@ -195,7 +195,7 @@ module _ (e : Encoding) (ranges table : List ℕ) (rb nb : ℕ) (s unit : List �
 
     -- one of another name
     module _ (d : a.name ≡ 0x55 → ⊥) (m : Option Cursor) (y : m ≡ attribute_end (attribute_at e unit at a.name a.form)) where
-      pub first-unpassed : m ≡ None → (w : Verdict) → w ≡ is_dead → w ≡ first_ranges e (ranges_by ranges table rb nb) (entry_values e s p₀ unit at₀)
+      pub first-unpassed : m ≡ None → (w : Result Verdict ℕ) → w ≡ Ok is_dead → w ≡ first_ranges e (ranges_by ranges table rb nb) (entry_values e s p₀ unit at₀)
       first-unpassed z = first-none (values-none e s p unit at a (sym q ∙ k) (unread e unit at a m y z))
 
       pub first_past : (c : Cursor) → m ≡ Some c
@@ -210,7 +210,7 @@ module _ (e : Encoding) (ranges table : List ℕ) (rb nb : ℕ) (s unit : List �
           ∙ ap (λ (c : Cursor). first_ranges e g (entry_values e s a.next.at unit c.at)) (sym v.past)
 
     module _ (d : a.name ≡ 0x55) (o : Option Attribute) (y : o ≡ attribute_at e unit at a.name a.form) where
-      pub first-unread : o ≡ None → (w : Verdict) → w ≡ is_dead → w ≡ first_ranges e (ranges_by ranges table rb nb) (entry_values e s p₀ unit at₀)
+      pub first-unread : o ≡ None → (w : Result Verdict ℕ) → w ≡ Ok is_dead → w ≡ first_ranges e (ranges_by ranges table rb nb) (entry_values e s p₀ unit at₀)
       first-unread z = first-none (values-none e s p unit at a (sym q ∙ k) (sym y ∙ z))
 
       module _ (v : Attribute) (z : o ≡ Some v) where
@@ -221,7 +221,7 @@ module _ (e : Encoding) (ranges table : List ℕ) (rb nb : ℕ) (s unit : List �
             h ∙ ap (first_ranges e g) (values-more e s p unit at a (sym q ∙ k) v (sym y ∙ z))
             ∙ ap (λ (b : Bool). pick b (ranges_of e g v) (first_ranges e g (entry_values e s a.next.at unit v.field.end))) (eq-eqb a.name 0x55 d)
 
-        pub first-form : (v.form ≡ 0x23 → ⊥) → (w : Verdict) → w ≡ other_ranges e ranges rb v
+        pub first-form : (v.form ≡ 0x23 → ⊥) → (w : Result Verdict ℕ) → w ≡ other_ranges e ranges rb v
             → w ≡ first_ranges e (ranges_by ranges table rb nb) (entry_values e s p₀ unit at₀)
         unfolding ranges_of pick
         first-form f w l = l ∙ sym (first-turn ∙ rw (ne_eqb v.form 0x23 f))
@@ -231,7 +231,7 @@ module _ (e : Encoding) (ranges table : List ℕ) (rb nb : ℕ) (s unit : List �
           unfolding ranges_of pick
           first-met = first-turn ∙ rw (eq-eqb v.form 0x23 f, l)
 
-          pub first-unresolved : i ≡ None → is_live ≡ first_ranges e (ranges_by ranges table rb nb) (entry_values e s p₀ unit at₀)
+          pub first-unresolved : i ≡ None → Ok is_live ≡ first_ranges e (ranges_by ranges table rb nb) (entry_values e s p₀ unit at₀)
           unfolding ranges_live
           first-unresolved u = sym (first-met ∙ rw u)
 
@@ -240,31 +240,31 @@ module _ (e : Encoding) (ranges table : List ℕ) (rb nb : ℕ) (s unit : List �
 
           -- its list decided, at a place of it
           pub first-decided : (c : Cursor) → i ≡ Some c → (place : ℕ) (dead : Bool) → ranges_from e table ranges c.at false ≡ ranges_from e table ranges place dead
-              → (x : Verdict) → ranges_from e table ranges place dead ≡ x → x ≡ first_ranges e (ranges_by ranges table rb nb) (entry_values e s p₀ unit at₀)
+              → (x : Result Verdict ℕ) → ranges_from e table ranges place dead ≡ x → x ≡ first_ranges e (ranges_by ranges table rb nb) (entry_values e s p₀ unit at₀)
           first-decided c u place dead j x w = sym (first-list c u ∙ j ∙ w)
 
 -- ---- the root test
 
 module _ (e : Encoding) (g : Ranges) (fixed : Bool) (unit : List ℕ) (tag : ℕ) (l : List Valued) where
-  module _ (k : tag ≡ 0x2e) (w : Verdict) (q : w ≡ low_pcs e g.table l) where
-    pub subprogram-live : w ≡ is_live → is_live ≡ root_test e g fixed unit tag l
+  module _ (k : tag ≡ 0x2e) (w : Result Verdict ℕ) (q : w ≡ low_pcs e g.table l) where
+    pub subprogram-live : w ≡ Ok is_live → Ok is_live ≡ root_test e g fixed unit tag l
     unfolding root_test pick or_else
     subprogram-live v = rw (eq-eqb tag 0x2e k, sym q ∙ v)
 
-    pub subprogram-refused : (m : ℕ) → w ≡ refused m → refused m ≡ root_test e g fixed unit tag l
+    pub subprogram-refused : (m : ℕ) → w ≡ Err m → Err m ≡ root_test e g fixed unit tag l
     unfolding root_test pick or_else
     subprogram-refused m v = rw (eq-eqb tag 0x2e k, sym q ∙ v)
 
-    pub subprogram-ranges : w ≡ is_dead → (r : Verdict) → r ≡ first_ranges e g l → r ≡ root_test e g fixed unit tag l
+    pub subprogram-ranges : w ≡ Ok is_dead → (r : Result Verdict ℕ) → r ≡ first_ranges e g l → r ≡ root_test e g fixed unit tag l
     unfolding root_test pick or_else
     subprogram-ranges v r z = z ∙ rw (eq-eqb tag 0x2e k, sym q ∙ v)
 
   module _ (n : tag ≡ 0x2e → ⊥) where
-    pub variable-is : tag ≡ 0x34 → (w : Verdict) → w ≡ locations e fixed g.table unit l → w ≡ root_test e g fixed unit tag l
+    pub variable-is : tag ≡ 0x34 → (w : Result Verdict ℕ) → w ≡ locations e fixed g.table unit l → w ≡ root_test e g fixed unit tag l
     unfolding root_test pick
     variable-is k w q = q ∙ rw (ne_eqb tag 0x2e n, eq-eqb tag 0x34 k)
 
-    pub other_tag : (tag ≡ 0x34 → ⊥) → is_dead ≡ root_test e g fixed unit tag l
+    pub other_tag : (tag ≡ 0x34 → ⊥) → Ok is_dead ≡ root_test e g fixed unit tag l
     unfolding root_test pick
     other_tag k = rw (ne_eqb tag 0x2e n, ne_eqb tag 0x34 k)
 

@@ -23,8 +23,8 @@ use Rattle.readers.specs.declared.entries.Step.TheVariants.{Entry as Entry', Ter
 use Rattle.marking.specs.Below.{every}
 use Rattle.marking.specs.Graph.{references, parent_fits, pair_fits, root_fits, well_formed, takes}
 use Rattle.marking.specs.EntryReferences.{ReferencesFound, found, refused as refused_after}
-use Rattle.marking.specs.declared.root_test.Verdict.{Verdict}
-use Rattle.marking.specs.declared.root_test.Verdict.TheVariants.{Live, Dead, Refused as Failed}
+use Rattle.marking.specs.declared.addresses.Verdict.{Verdict}
+use Rattle.marking.specs.declared.addresses.Verdict.TheVariants.{Live, Dead}
 use Rattle.marking.proofs.Tests.{and_in, or_inl, or_inr}
 use Rattle.readers.specs.Stream.{Item, entry, terminator, Items, push, on_step, items_within, items_from}
 use Rattle.marking.specs.Analysis.{Sections, Rooms, EntryRow, Analysed, analysed, refused, onto, on_verdict, on_found, Reached, reached, start_of, analyse_items, on_declared, unit_analysed, header_by, header_analysed, analysis_of, root_of, names_of, base_of}
@@ -177,11 +177,11 @@ pub gives_of : (P : List EntryRow → Type 0) (a : Analysed) (rows : List EntryR
 unfolding Gives
 gives_of P a rows g q = subst (Gives P) q g
 
-pub gives-verdict : (P : List EntryRow → Type 0) (v : Verdict) (k : ℕ → Analysed) → ((root : ℕ) → root ≤ 1 → Gives P (k root)) → Gives P (on_verdict v k)
+pub gives-verdict : (P : List EntryRow → Type 0) (v : Result Verdict ℕ) (k : ℕ → Analysed) → ((root : ℕ) → root ≤ 1 → Gives P (k root)) → Gives P (on_verdict v k)
 unfolding Gives on_verdict
-gives-verdict P Live k h = h 1 (omega arith)
-gives-verdict P Dead k h = h 0 (omega arith)
-gives-verdict P (Failed n) k h = tt
+gives-verdict P (Ok Live) k h = h 1 (omega arith)
+gives-verdict P (Ok Dead) k h = h 0 (omega arith)
+gives-verdict P (Err n) k h = tt
 
 pub gives_found : (P : List EntryRow → Type 0) (f : ReferencesFound) (k : List ℕ → Analysed) → ((names : List ℕ) → Gives P (k names)) → Gives P (on_found f k)
 unfolding Gives on_found

@@ -12,7 +12,6 @@ use mir.Facts.{yes_eqb, no_eqb, ltb_yes, ltb_no}
 use Rattle.readers.proofs.Choice.{either, pick_yes, pick_no}
 use Rattle.marking.specs.Resolution.{entry_from, Ascending}
 use Rattle.marking.specs.Inner.Resolution.{as_entry, Searched}
-use Rattle.marking.specs.declared.units.EntryFound.TheVariants.{Entry, Nothing}
 use Rattle.marking.proofs.Rows.{ascending-from, ascending-at}
 
 entry-none : (k : ℕ) (os : List ℕ) (t : ℕ) → ((i : ℕ) → i < length os → get_or os i 0 ≡ t → ⊥) → entry_from k os t ≡ None
@@ -54,7 +53,7 @@ module _ (offsets : List ℕ) (n t : ℕ) where
 
   module _ (low high : ℕ) (h : Halving offsets n t low high) where
     -- all were tried
-    pub halving-end : high ≤ low → Nothing ≡ as_entry (entry_from 0 (take n offsets) t)
+    pub halving-end : high ≤ low → None ≡ as_entry (entry_from 0 (take n offsets) t)
     unfolding as_entry
     halving-end l =
         let inside : n ≤ length offsets = h.searched.inside in
@@ -67,7 +66,7 @@ module _ (offsets : List ℕ) (n t : ℕ) where
         (either (ltb i low)))))
 
     module _ (m : ℕ) (lo : low ≤ m) (hi : m < high) where
-      pub halving-found : get_or offsets m 0 ≡ t → Entry (record { 0 = m }) ≡ as_entry (entry_from 0 (take n offsets) t)
+      pub halving-found : get_or offsets m 0 ≡ t → Some (record { 0 = m }) ≡ as_entry (entry_from 0 (take n offsets) t)
       unfolding as_entry
       halving-found q =
           let inside : n ≤ length offsets = h.searched.inside in

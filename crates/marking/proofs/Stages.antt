@@ -2,7 +2,7 @@
 use mathlib.Core.Path.{◌≡◌, refl, ap, ap₂, sym, ◌∙◌, subst}
 use Prim.Native.Nat.{ℕ, suc, ◌+◌, ◌*◌, ◌-◌, ◌^◌, ◌≤◌, ◌<◌}
 use mathlib.Core.Bool.{Bool, true, false}
-use Rattle.std.specs.Prelude.{None, Option, Some}
+use Rattle.std.specs.Prelude.{None, Option, Some, Err, Result}
 use Rattle.readers.specs.declared.abbreviations.Declaration.{Declaration}
 use Rattle.readers.specs.declared.entries.Step.{Step}
 use mathlib.Core.List.{List, [], ◌∷◌, ◌++◌, append-nil, append_assoc}
@@ -33,10 +33,10 @@ use Rattle.readers.specs.Stream.{Items, push, on_step, items_from}
 use Rattle.marking.specs.Analysis.{Sections, Rooms, EntryRow, Analysed, analysed, refused, onto, on_verdict, on_found, Reached, reached, start_of, values_of_entry, test_of, root_of, names_of, base_of, analyse_items, on_declared, unit_analysed}
 use Rattle.marking.specs.Columns.{offsets_in, parents_in, roots_in, names_in, ends_in, pad_to, answer_of}
 use Rattle.marking.specs.Inner.Columns.{Left, Outcome, AnalysisInput, headed, refusal_of, entry_answer, entry_table}
-use Rattle.marking.specs.declared.analysis.EntryAnalysis.{EntryAnalysis}
-use Rattle.marking.specs.declared.analysis.EntryAnalysis.TheVariants.{Found as RowFound, Refused as NoRow}
 use Rattle.marking.specs.declared.analysis.Analysis.{Analysis}
-use Rattle.marking.specs.declared.analysis.Analysis.TheVariants.{Entries, Refused as Refused'}
+use Rattle.marking.specs.declared.analysis.EntryAnalysis.{EntryAnalysis}
+use Rattle.marking.specs.Columns.{entries_counted}
+use Rattle.marking.specs.Inner.Columns.{row_found}
 use Rattle.marking.proofs.Places.{placed-fits, fits-placed, not-placed, written-onto}
 use Rattle.marking.proofs.EntryAnswers.{length-entry-table, entry-refused, RowOf, entry_found_lem, answered-end, unread-four}
 use Rattle.readers.proofs.Streams.{EntryInside, step-inside, terminator-inside, items-step, items-look}
@@ -280,10 +280,10 @@ module _ {e : Encoding} {x : Sections} {unit : List ℕ} {room : Rooms} {look : 
   here = reached count to h.stack rb lb
 
   -- an answer with the columns, of which the last may be another
-  abbrev Ends : Analysis → List ℕ → Type 0
+  abbrev Ends : Result Analysis ℕ → List ℕ → Type 0
   Ends r last = (r ≡ answer_of whole) × Outcome whole offsets₀ parents₀ roots₀ ends₀ targets₀ offsets parents roots ends last
 
-  refuses : (n : ℕ) → from_here e x unit room look here at at here ≡ refused n → (last : List ℕ) → length last ≡ length targets → Ends (Refused' n) last
+  refuses : (n : ℕ) → from_here e x unit room look here at at here ≡ refused n → (last : List ℕ) → length last ≡ length targets → Ends (Err n) last
   unfolding answer_of
   refuses n q last l =
       let w : whole ≡ refused n = h.whole_is ∙ ap (onto_all h.done) q ∙ onto-refused h.done n in (
@@ -297,14 +297,14 @@ module _ {e : Encoding} {x : Sections} {unit : List ℕ} {room : Rooms} {look : 
         },
       )
 
-  pub stage-unreadable : None ≡ step_at e x.abbreviations look unit at → Ends (Refused' 4) targets
+  pub stage-unreadable : None ≡ step_at e x.abbreviations look unit at → Ends (Err 4) targets
   stage-unreadable s = refuses 4 (from-unreadable e x unit room look here at s) targets refl
 
-  pub stage-end : Some End ≡ step_at e x.abbreviations look unit at → Ends (Entries count to) targets
+  pub stage-end : Some End ≡ step_at e x.abbreviations look unit at → Ends (entries_counted count to) targets
   unfolding answer_of
   stage-end s =
       let w : whole ≡ analysed h.done = h.whole_is ∙ ap (onto_all h.done) (from_end e x unit room look here at s) ∙ onto-done h.done in (
-        ap₂ Entries h.count-is h.to_is ∙ sym (ap answer_of w),
+        ap₂ entries_counted h.count-is h.to_is ∙ sym (ap answer_of w),
         record {
           offsets_left = left-done offsets_in _ whole h.done offsets w h.offsets_are;
           parents_left = left-done parents_in _ whole h.done parents w h.parents_are;
@@ -355,7 +355,7 @@ module _ {e : Encoding} {x : Sections} {unit : List ℕ} {room : Rooms} {look : 
         let c : y.next.at ≤ length unit = i.within in
         (omega arith, c)
 
-    pub stage-full : room.entries ≤ count → Ends (Refused' 10) targets
+    pub stage-full : room.entries ≤ count → Ends (Err 10) targets
     stage-full f =
         refuses 10 (from-entry e x unit room look here at y s _ _ refl refl ∙ pick_no _ _ _ (no_ltb {a = count} {b = room.entries} f)) targets refl
 
@@ -368,14 +368,14 @@ module _ {e : Encoding} {x : Sections} {unit : List ℕ} {room : Rooms} {look : 
       pub targets-size : length targets' ≡ length targets
       targets-size = ap length t ∙ length-entry-table targets to (root_of e x unit rb' y) (names_of e x unit lb' y)
 
-      pub stage-refused : (n : ℕ) → NoRow n ≡ entry_answer (length targets) to (Some y.next) (root_of e x unit rb' y) (names_of e x unit lb' y) → Ends (Refused' n) targets'
+      pub stage-refused : (n : ℕ) → Err n ≡ entry_answer (length targets) to (Some y.next) (root_of e x unit rb' y) (names_of e x unit lb' y) → Ends (Err n) targets'
       stage-refused n q = refuses n (from_row ∙ entry-refused (length targets) to n y.next _ _ (row_by e x unit room look here at y rb' lb') q) targets' targets-size
 
-      module _ (root place : ℕ) (q : RowFound root place y.next ≡ entry_answer (length targets) to (Some y.next) (root_of e x unit rb' y) (names_of e x unit lb' y)) where
+      module _ (root place : ℕ) (q : row_found root place y.next ≡ entry_answer (length targets) to (Some y.next) (root_of e x unit rb' y) (names_of e x unit lb' y)) where
         row : RowOf targets to (root_of e x unit rb' y) (names_of e x unit lb' y) root place
         row = entry_found_lem targets to root place y.next _ _ q
 
-        pub stage-over : room.references < place → Ends (Refused' 11) targets'
+        pub stage-over : room.references < place → Ends (Err 11) targets'
         stage-over o =
             let z : length targets ≡ length targets₀ = h.targets-are.size in
             let m : room.references ≤ length targets₀ = h.targets_room in
@@ -442,34 +442,34 @@ module _ {e : Encoding} {x : Sections} {unit : List ℕ} {room : Rooms} {look : 
 
   -- an entry by its head and where its values end
   module _ (g : EntryHead) (end : Option Cursor) (s : entry_to g end ≡ step_at e x.abbreviations look unit at) where
-    pub head-full : (n : ℕ) → n ≡ refusal_of end 10 → room.entries ≤ count → Ends (Refused' n) targets
+    pub head-full : (n : ℕ) → n ≡ refusal_of end 10 → room.entries ≤ count → Ends (Err n) targets
     unfolding entry_to refusal_of
     head-full n q f = of end s q
       where
-        of : (end' : Option Cursor) → entry_to g end' ≡ step_at e x.abbreviations look unit at → n ≡ refusal_of end' 10 → Ends (Refused' n) targets
-        of (Some next) s' q' = subst (λ (k : ℕ). Ends (Refused' k) targets) (sym q') (stage-full (entry_of g next) s' f)
-        of None s' q' = subst (λ (k : ℕ). Ends (Refused' k) targets) (sym q') (stage-unreadable s')
+        of : (end' : Option Cursor) → entry_to g end' ≡ step_at e x.abbreviations look unit at → n ≡ refusal_of end' 10 → Ends (Err n) targets
+        of (Some next) s' q' = subst (λ (k : ℕ). Ends (Err k) targets) (sym q') (stage-full (entry_of g next) s' f)
+        of None s' q' = subst (λ (k : ℕ). Ends (Err k) targets) (sym q') (stage-unreadable s')
 
     module _ (l : count < room.entries) (rb' lb' : ℕ) (r : rb' ≡ base_of e x unit 0x74 rb (headed g)) (b : lb' ≡ base_of e x unit 0x8c lb (headed g))
         (targets' : List ℕ) (t : targets' ≡ entry_table targets to (root_of e x unit rb' (headed g)) (names_of e x unit lb' (headed g))) where
-      abbrev answer_to : Option Cursor → EntryAnalysis
+      abbrev answer_to : Option Cursor → Result EntryAnalysis ℕ
       answer_to m = entry_answer (length targets) to m (root_of e x unit rb' (headed g)) (names_of e x unit lb' (headed g))
 
       pub head-size : length targets' ≡ length targets
       head-size = ap length t ∙ length-entry-table targets to (root_of e x unit rb' (headed g)) (names_of e x unit lb' (headed g))
 
-      pub head-refused : (n : ℕ) → NoRow n ≡ answer_to end → Ends (Refused' n) targets'
+      pub head-refused : (n : ℕ) → Err n ≡ answer_to end → Ends (Err n) targets'
       unfolding entry_to values_of_entry test_of root_of names_of base_of
       head-refused n q = of end s q
         where
-          of : (end' : Option Cursor) → entry_to g end' ≡ step_at e x.abbreviations look unit at → NoRow n ≡ answer_to end' → Ends (Refused' n) targets'
+          of : (end' : Option Cursor) → entry_to g end' ≡ step_at e x.abbreviations look unit at → Err n ≡ answer_to end' → Ends (Err n) targets'
           of (Some next) s' q' = stage-refused (entry_of g next) s' l rb' lb' r b targets' t n q'
           of None s' q' =
-              subst (λ (k : ℕ). Ends (Refused' k) targets')
+              subst (λ (k : ℕ). Ends (Err k) targets')
               (sym (unread-four (length targets) to n (root_of e x unit rb' (headed g)) (names_of e x unit lb' (headed g)) q'))
               (refuses 4 (from-unreadable e x unit room look here at s') targets' head-size)
 
-      module _ (root place : ℕ) (next : Cursor) (q : RowFound root place next ≡ answer_to end) where
+      module _ (root place : ℕ) (next : Cursor) (q : row_found root place next ≡ answer_to end) where
         there : end ≡ Some next
         there = answered-end (length targets) to root place next end (root_of e x unit rb' (headed g)) (names_of e x unit lb' (headed g)) q
 
@@ -480,7 +480,7 @@ module _ {e : Encoding} {x : Sections} {unit : List ℕ} {room : Rooms} {look : 
         pub head-ahead : (at < next.at) × (next.at ≤ length unit)
         head-ahead = stage-ahead (entry_of g next) entered
 
-        pub head-over : room.references < place → Ends (Refused' 11) targets'
+        pub head-over : room.references < place → Ends (Err 11) targets'
         unfolding values_of_entry test_of root_of names_of base_of
         head-over o = stage-over (entry_of g next) entered l rb' lb' r b targets' t root place (q ∙ ap answer_to there) o
 

@@ -19,26 +19,26 @@ use Rattle.marking.specs.KeepList.{KeepList, keep_refusal}
 use Rattle.marking.specs.Columns.{offsets_in, parents_in, roots_in, names_in, ends_in, pad_to, column, least, rooms_of, index_after, answer_of}
 use Rattle.marking.specs.Inner.Columns.{Left, Outcome, AnalysisInput, left_by, unit_checked, unit_found}
 use Rattle.marking.specs.declared.analysis.Analysis.{Analysis}
-use Rattle.marking.specs.declared.analysis.Analysis.TheVariants.{Entries, Refused as Refused'}
+use Rattle.marking.specs.Columns.{entries_counted}
 use Rattle.marking.specs.declared.analysis.UnitFound.{UnitFound}
 use Rattle.marking.specs.declared.analysis.UnitFound.TheVariants.{Unit as Found', Answered as Answered'}
 use Rattle.marking.proofs.ListedHeaders.{after-listed}
 
 -- ---- columns that are left, and columns that are cleared
 
-left_by_lem : (f : List EntryRow → List ℕ) (n : ℕ) (w : Analysed) (r : Analysis) (col col' : List ℕ)
+left_by_lem : (f : List EntryRow → List ℕ) (n : ℕ) (w : Analysed) (r : Result Analysis ℕ) (col col' : List ℕ)
     → r ≡ answer_of w → Left f n w col → col' ≡ left_by r col → col' ≡ column f n w
 unfolding answer_of Left column left_by
-left_by_lem f n (analysed rows) r col col' q h e = e ∙ ap (λ (a : Analysis). left_by a col) q ∙ h
-left_by_lem f n (refused k) r col col' q h e = e ∙ ap (λ (a : Analysis). left_by a col) q ∙ ap zeros h
+left_by_lem f n (analysed rows) r col col' q h e = e ∙ ap (λ (a : Result Analysis ℕ). left_by a col) q ∙ h
+left_by_lem f n (refused k) r col col' q h e = e ∙ ap (λ (a : Result Analysis ℕ). left_by a col) q ∙ ap zeros h
 
-pub left-same : {a : Analysis} {n m : ℕ} → a ≡ Entries n m → (col : List ℕ) → col ≡ left_by a col
+pub left-same : {a : Result Analysis ℕ} {n m : ℕ} → a ≡ entries_counted n m → (col : List ℕ) → col ≡ left_by a col
 unfolding left_by
-left-same e col = sym (ap (λ (r : Analysis). left_by r col) e)
+left-same e col = sym (ap (λ (r : Result Analysis ℕ). left_by r col) e)
 
-pub left-zeros : {a : Analysis} {n : ℕ} → a ≡ Refused' n → (col cleared : List ℕ) → cleared ≡ zeros (length col) → cleared ≡ left_by a col
+pub left-zeros : {a : Result Analysis ℕ} {n : ℕ} → a ≡ Err n → (col cleared : List ℕ) → cleared ≡ zeros (length col) → cleared ≡ left_by a col
 unfolding left_by
-left-zeros e col cleared h = h ∙ sym (ap (λ (r : Analysis). left_by r col) e)
+left-zeros e col cleared h = h ∙ sym (ap (λ (r : Result Analysis ℕ). left_by r col) e)
 
 column-refused : (f : List EntryRow → List ℕ) (n k : ℕ) (w : Analysed) (col : List ℕ) → w ≡ refused k → col ≡ zeros n → col ≡ column f n w
 unfolding column
@@ -63,7 +63,7 @@ ready-in {abbreviations} {index} {from} {unit} {unit'} {n} {m} {offsets} {parent
 
 module _ {w w' : Analysed} {offsets₀ parents₀ roots₀ ends₀ targets₀ offsets parents roots ends targets : List ℕ} (same : w ≡ w')
     (h : Outcome w offsets₀ parents₀ roots₀ ends₀ targets₀ offsets parents roots ends targets) where
-  pub unit_left : (r : Analysis) → r ≡ answer_of w → (r' : Analysis) (offsets' parents' roots' ends' targets' : List ℕ)
+  pub unit_left : (r : Result Analysis ℕ) → r ≡ answer_of w → (r' : Result Analysis ℕ) (offsets' parents' roots' ends' targets' : List ℕ)
       → (r' ≡ r)
       × ((offsets' ≡ left_by r offsets)
       × ((parents' ≡ left_by r parents)
@@ -136,12 +136,12 @@ Clear nf np nr ne nt offsets parents roots ends targets = (offsets ≡ zeros nf)
 
 module _ (abbreviations : List ℕ) (r : Result (Option UnitHeader) ℕ) where
   pub found_none : r ≡ Ok None → (k : ℕ) (index : List ℕ) → index ≡ zeros k
-      → (Answered' (Entries 0 0) ≡ unit_found abbreviations r) × (index ≡ index_after abbreviations r k)
+      → (Answered' (entries_counted 0 0) ≡ unit_found abbreviations r) × (index ≡ index_after abbreviations r k)
   unfolding unit_found index_after
   found_none e k index i = (sym (ap (unit_found abbreviations) e), i ∙ sym (ap (λ (q : Result (Option UnitHeader) ℕ). index_after abbreviations q k) e))
 
   pub found-refused : (n : ℕ) → r ≡ Err n → (k : ℕ) (index : List ℕ) → index ≡ zeros k
-      → (Answered' (Refused' n) ≡ unit_found abbreviations r) × (index ≡ index_after abbreviations r k)
+      → (Answered' (Err n) ≡ unit_found abbreviations r) × (index ≡ index_after abbreviations r k)
   unfolding unit_found index_after
   found-refused n e k index i = (sym (ap (unit_found abbreviations) e), i ∙ sym (ap (λ (q : Result (Option UnitHeader) ℕ). index_after abbreviations q k) e))
 
@@ -215,7 +215,7 @@ unit-ready keep own abbreviations index section h k {entries} {references} {n} {
 -- ---- the section
 
 module _ (x : Sections) (section : List ℕ) (room : Rooms) (k nf np nr ne nt : ℕ) (index offsets parents roots ends targets : List ℕ) where
-  abbrev pub Answered : Analysis → Type 0
+  abbrev pub Answered : Result Analysis ℕ → Type 0
   Answered r =
       (r ≡ answer_of (analysis_of x section room))
       × ((index ≡ index_after x.abbreviations (header_by x section) k)
@@ -227,7 +227,7 @@ module _ (x : Sections) (section : List ℕ) (room : Rooms) (k nf np nr ne nt : 
 
   module _ (i : index ≡ index_after x.abbreviations (header_by x section) k) where
     module _ (c : Clear nf np nr ne nt offsets parents roots ends targets) where
-      section-refused : (n : ℕ) → analysis_of x section room ≡ refused n → Answered (Refused' n)
+      section-refused : (n : ℕ) → analysis_of x section room ≡ refused n → Answered (Err n)
       unfolding answer_of
       section-refused n w = (
         sym (ap answer_of w),
@@ -249,7 +249,7 @@ module _ (x : Sections) (section : List ℕ) (room : Rooms) (k nf np nr ne nt : 
         ),
       )
 
-      section-empty : analysis_of x section room ≡ analysed [] → Answered (Entries 0 0)
+      section-empty : analysis_of x section room ≡ analysed [] → Answered (entries_counted 0 0)
       unfolding answer_of offsets_in parents_in roots_in ends_in names_in
       section-empty w = (
         sym (ap answer_of w),
@@ -271,29 +271,29 @@ module _ (x : Sections) (section : List ℕ) (room : Rooms) (k nf np nr ne nt : 
         ),
       )
 
-      undeclared : (h : UnitHeader) (a : Analysis) (o : Option (List Placed)) → Answered' a ≡ unit_checked h (as_checked o)
-          → (f : List Placed → Analysed) → (a ≡ Refused' 3) × (on_declared o f ≡ refused 3)
+      undeclared : (h : UnitHeader) (a : Result Analysis ℕ) (o : Option (List Placed)) → Answered' a ≡ unit_checked h (as_checked o)
+          → (f : List Placed → Analysed) → (a ≡ Err 3) × (on_declared o f ≡ refused 3)
       unfolding as_checked on_declared unit_checked
-      undeclared h a None q f = let e : a ≡ Refused' 3 = cc in (e, refl)
+      undeclared h a None q f = let e : a ≡ Err 3 = cc in (e, refl)
       undeclared h a (Some ds) q f = let z : ◌≡◌ {A = ℕ} 0 1 = cc in absurd (omega arith)
 
-      pub section-answered : (a : Analysis) → Answered' a ≡ unit_found x.abbreviations (header_by x section) → Answered a
+      pub section-answered : (a : Result Analysis ℕ) → Answered' a ≡ unit_found x.abbreviations (header_by x section) → Answered a
       unfolding header_analysed unit_analysed checked_of unit_found
       section-answered a q = of (header_by x section) refl q
         where
           of : (r : Result (Option UnitHeader) ℕ) → header_by x section ≡ r → Answered' a ≡ unit_found x.abbreviations r → Answered a
           of (Ok None) e q' =
-              let s : a ≡ Entries 0 0 = cc in
+              let s : a ≡ entries_counted 0 0 = cc in
               subst Answered (sym s) (section-empty (analysis-by (Ok None) e))
           of (Err n) e q' =
-              let s : a ≡ Refused' n = cc in
+              let s : a ≡ Err n = cc in
               subst Answered (sym s) (section-refused n (analysis-by (Err n) e))
           of (Ok (Some h)) e q' =
               let u = undeclared h a (abbreviations_of x.abbreviations h.abbreviations) q' _ in
               subst Answered (sym u.0) (section-refused 3 (analysis-by (Ok (Some h)) e ∙ u.1))
 
     pub section-unit : (h : UnitHeader) → Found' h ≡ unit_found x.abbreviations (header_by x section)
-        → (room' : Rooms) (nf' np' nr' ne' nt' : ℕ) (r : Analysis) → room' ≡ room → nf' ≡ nf → np' ≡ np → nr' ≡ nr → ne' ≡ ne → nt' ≡ nt
+        → (room' : Rooms) (nf' np' nr' ne' nt' : ℕ) (r : Result Analysis ℕ) → room' ≡ room → nf' ≡ nf → np' ≡ np → nr' ≡ nr → ne' ≡ ne → nt' ≡ nt
         → (r ≡ answer_of (unit_analysed h.encoding x (take h.end section) room' h.abbreviations h.first.0))
         × Filled' (unit_analysed h.encoding x (take h.end section) room' h.abbreviations h.first.0) nf' np' nr' ne' nt' offsets parents roots ends targets
         → Answered r

@@ -15,10 +15,9 @@ use Rattle.marking.specs.Analysis.{Sections, Rooms, EntryRow, Analysed, analysed
 use Rattle.marking.specs.Columns.{offsets_in, parents_in, roots_in, names_in, ends_in, pad_to, column, least, rooms_of, unit_rooms, index_after, answer_of}
 use Rattle.marking.specs.Resolution.{pairs_in, graph_of, marks_in, unit_marks}
 use Rattle.marking.specs.Inner.Resolution.{UnitColumns, Markable}
-use Rattle.marking.specs.declared.marks.Marked.TheVariants.{Kept, Refused as Untaken}
-use Rattle.marking.specs.declared.analysis.Analysis.TheVariants.{Entries, Refused as Refused'}
 use Rattle.marking.specs.declared.units.UnitMarks.{UnitMarks}
-use Rattle.marking.specs.declared.units.UnitMarks.TheVariants.{Marked, Refused as Refused''}
+use Rattle.marking.specs.Columns.{entries_counted}
+use Rattle.marking.specs.Resolution.{marked}
 use Rattle.marking.proofs.Letters.{length-marks}
 use Rattle.marking.proofs.Rows.{UnitRows, unit-rows, no_rows, graph-takes, length-parents, length-roots}
 use Rattle.marking.proofs.Columned.{pairs-most, drop-zeros, padded-few, padded-take, rows-held}
@@ -60,23 +59,23 @@ module _ {offsets parents roots ends : List ℕ} {n : ℕ} {marks targets pairs 
   lent_is : length (take n marks) ≡ n
   lent_is = sym (take_within n marks h.marks_inside)
 
-  marked-is : mark_answer Given (length (take n marks)) ≡ Kept (kept_count (marks_in rows))
+  marked-is : mark_answer Given (length (take n marks)) ≡ Ok (kept_count (marks_in rows))
   unfolding mark_answer marks_in pick
   marked-is =
       ap₂ mark_answer given_is lent_is
-      ∙ ap (λ (b : Bool). pick b (Kept (kept_count (marks_of (graph_of rows)))) (Untaken 16)) h.fits
+      ∙ ap (λ (b : Bool). pick b (Ok (kept_count (marks_of (graph_of rows)))) (Err 16)) h.fits
 
-  pub rows-kept : (k : ℕ) → Kept k ≡ mark_answer Given (length (take n marks)) → Marked n k ≡ unit_marks (analysed rows)
+  pub rows-kept : (k : ℕ) → Ok k ≡ mark_answer Given (length (take n marks)) → marked n k ≡ unit_marks (analysed rows)
   unfolding unit_marks
   rows-kept k q =
-      let e : Kept k ≡ Kept (kept_count (marks_in rows)) = q ∙ marked-is in
+      let e : Ok k ≡ Ok (kept_count (marks_in rows)) = q ∙ marked-is in
       let z : k ≡ kept_count (marks_in rows) = cc in
-      ap₂ (λ (i j : ℕ). Marked i j) (sym h.held.count) z
+      ap₂ (λ (i j : ℕ). marked i j) (sym h.held.count) z
 
   -- marking takes the graph of a unit
-  pub rows_taken : (k : ℕ) → Untaken k ≡ mark_answer Given (length (take n marks)) → Refused'' k ≡ unit_marks (analysed rows)
+  pub rows_taken : (k : ℕ) → Err k ≡ mark_answer Given (length (take n marks)) → Err k ≡ unit_marks (analysed rows)
   rows_taken k q =
-      let e : Untaken k ≡ Kept (kept_count (marks_in rows)) = q ∙ marked-is in
+      let e : Err k ≡ Ok (kept_count (marks_in rows)) = q ∙ marked-is in
       let z : ◌≡◌ {A = ℕ} 0 1 = cc in
       absurd (omega arith)
 
@@ -124,12 +123,12 @@ record RowsOf (w : Analysed) (n : ℕ) : Type 0 where
   pub is : w ≡ analysed rows
   pub count : length rows ≡ n
 
-rows_of : (w : Analysed) (n m : ℕ) → Entries n m ≡ answer_of w → RowsOf w n
+rows_of : (w : Analysed) (n m : ℕ) → entries_counted n m ≡ answer_of w → RowsOf w n
 unfolding answer_of
 rows_of (analysed rows) n m q = record { rows = rows; is = refl; count = let z : length rows ≡ n = cc in z }
 rows_of (refused k) n m q = let z : ◌≡◌ {A = ℕ} 0 1 = cc in absurd (omega arith)
 
-refusal-of : (w : Analysed) (n : ℕ) → Refused' n ≡ answer_of w → w ≡ refused n
+refusal-of : (w : Analysed) (n : ℕ) → Err n ≡ answer_of w → w ≡ refused n
 unfolding answer_of
 refusal-of (analysed rows) n q = let z : ◌≡◌ {A = ℕ} 0 1 = cc in absurd (omega arith)
 refusal-of (refused k) n q = ap refused (let z : k ≡ n = cc in z)
@@ -160,13 +159,13 @@ module _ (x : Sections) (section : List ℕ) (nm nq nf np nr ne nt k : ℕ) (ind
   unfolding unit_rooms
   same = ap₂ (λ (i j : ℕ). analysis_of x section (rooms_of i (j / 2) nf np nr ne nt)) marks-long pairs-long
 
-  abbrev UnitMarked : UnitMarks → List ℕ → List ℕ → Type 0
+  abbrev UnitMarked : Result UnitMarks ℕ → List ℕ → List ℕ → Type 0
   UnitMarked r marks' pairs' =
       (r ≡ unit_marks (analysis_of x section lent)) × ((index ≡ index_after x.abbreviations (header_by x section) k) × ((offsets ≡ column offsets_in nf (analysis_of x section lent)) × (
       (parents ≡ column parents_in np (analysis_of x section lent)) × ((roots ≡ column roots_in nr (analysis_of x section lent)) × ((ends ≡ column (ends_in 0) ne (analysis_of x section lent)) × (
       (marks' ≡ column marks_in nm (analysis_of x section lent)) × ((targets ≡ column names_in nt (analysis_of x section lent)) × (pairs' ≡ column pairs_in nq (analysis_of x section lent)))))))))
 
-  pub unit-refused : (n : ℕ) → Answered x section here k nf np nr ne nt index offsets parents roots ends targets (Refused' n) → UnitMarked (Refused'' n) marks pairs
+  pub unit-refused : (n : ℕ) → Answered x section here k nf np nr ne nt index offsets parents roots ends targets (Err n) → UnitMarked (Err n) marks pairs
   unfolding unit_marks column
   unit-refused n a =
       let is : analysis_of x section lent ≡ refused n = sym same ∙ refusal-of (analysis_of x section here) n a.0 in
@@ -197,7 +196,7 @@ module _ (x : Sections) (section : List ℕ) (nm nq nf np nr ne nt k : ℕ) (ind
       )
 
   module _ (lf : length offsets ≡ nf) (lp : length parents ≡ np) (lr : length roots ≡ nr) (le : length ends ≡ ne) (lt : length targets ≡ nt)
-      (n m : ℕ) (a : Answered x section here k nf np nr ne nt index offsets parents roots ends targets (Entries n m)) where
+      (n m : ℕ) (a : Answered x section here k nf np nr ne nt index offsets parents roots ends targets (entries_counted n m)) where
     found : RowsOf (analysis_of x section here) n
     found = rows_of (analysis_of x section here) n m a.0
 
@@ -234,7 +233,7 @@ module _ (x : Sections) (section : List ℕ) (nm nq nf np nr ne nt k : ℕ) (ind
     pub unit-markable : Markable offsets parents roots ends n marks targets pairs
     unit-markable = record { rows = found.rows; laid = laid }
 
-    module _ (r : UnitMarks) (marks' pairs' : List ℕ)
+    module _ (r : Result UnitMarks ℕ) (marks' pairs' : List ℕ)
         (answer : (rows : List EntryRow) → UnitColumns rows offsets parents roots ends n marks targets pairs → r ≡ unit_marks (analysed rows))
         (marked : (rows : List EntryRow) → UnitColumns rows offsets parents roots ends n marks targets pairs → marks' ≡ pad_to (length marks) (marks_in rows))
         (paired : (rows : List EntryRow) → UnitColumns rows offsets parents roots ends n marks targets pairs → pairs' ≡ pad_to (length pairs) (pairs_in rows)) where

@@ -12,38 +12,38 @@ use Rattle.readers.specs.declared.attributes.Attribute.{Attribute}
 use Rattle.readers.specs.declared.operations.ListEntry.{ListEntry}
 use Rattle.marking.specs.Addresses.{is_tombstone, lookup_at}
 use Rattle.marking.specs.Roots.{on_lookup, turn_of, range_entry, low_pc}
-use Rattle.marking.specs.declared.addresses.AddressLookup.{AddressLookup}
-use Rattle.marking.specs.declared.addresses.AddressLookup.TheVariants.{Live, Dead, Fails}
+use Rattle.std.specs.Prelude.{Err, Ok, Result}
+use Rattle.marking.specs.declared.addresses.Verdict.{Verdict}
 use Rattle.marking.specs.declared.root_test.RangeTurn.TheVariants.{On, Decided}
-use Rattle.marking.specs.declared.root_test.Verdict.TheVariants.{Live as is_live, Dead as is_dead, Refused as refused}
+use Rattle.marking.specs.declared.addresses.Verdict.TheVariants.{Live as is_live, Dead as is_dead}
 
 -- ---- an entry of a range list
 
 module _ (e : Encoding) (table : List ℕ) (dead : Bool) (x : ListEntry) where
-  module _ (l : AddressLookup) (q : l ≡ lookup_at table x.first.value) where
+  module _ (l : Result Verdict ℕ) (q : l ≡ lookup_at table x.first.value) where
     module _ (k : x.kind ≡ 1) where
-      pub base_live : l ≡ Live → On false ≡ turn_of (range_entry e table dead x)
+      pub base_live : l ≡ Ok is_live → On false ≡ turn_of (range_entry e table dead x)
       unfolding range_entry turn_of pick on_lookup
       base_live v = rw (eq-eqb x.kind 1 k, sym q ∙ v)
 
-      pub base-dead : l ≡ Dead → On true ≡ turn_of (range_entry e table dead x)
+      pub base-dead : l ≡ Ok is_dead → On true ≡ turn_of (range_entry e table dead x)
       unfolding range_entry turn_of pick on_lookup
       base-dead v = rw (eq-eqb x.kind 1 k, sym q ∙ v)
 
-      pub base-fails : (n : ℕ) → l ≡ Fails n → Decided (refused n) ≡ turn_of (range_entry e table dead x)
+      pub base-fails : (n : ℕ) → l ≡ Err n → Decided (Err n) ≡ turn_of (range_entry e table dead x)
       unfolding range_entry turn_of pick on_lookup
       base-fails n v = rw (eq-eqb x.kind 1 k, sym q ∙ v)
 
     module _ (k : x.kind ≡ 1 → ⊥) (h : x.kind ≤ 3) where
-      pub start-live : l ≡ Live → Decided is_live ≡ turn_of (range_entry e table dead x)
+      pub start-live : l ≡ Ok is_live → Decided (Ok is_live) ≡ turn_of (range_entry e table dead x)
       unfolding range_entry turn_of pick on_lookup
       start-live v = rw (ne_eqb x.kind 1 k, le-leb x.kind 3 h, sym q ∙ v)
 
-      pub start-dead : l ≡ Dead → On dead ≡ turn_of (range_entry e table dead x)
+      pub start-dead : l ≡ Ok is_dead → On dead ≡ turn_of (range_entry e table dead x)
       unfolding range_entry turn_of pick on_lookup
       start-dead v = rw (ne_eqb x.kind 1 k, le-leb x.kind 3 h, sym q ∙ v)
 
-      pub start-fails : (n : ℕ) → l ≡ Fails n → Decided (refused n) ≡ turn_of (range_entry e table dead x)
+      pub start-fails : (n : ℕ) → l ≡ Err n → Decided (Err n) ≡ turn_of (range_entry e table dead x)
       unfolding range_entry turn_of pick on_lookup
       start-fails n v = rw (ne_eqb x.kind 1 k, le-leb x.kind 3 h, sym q ∙ v)
 
@@ -52,7 +52,7 @@ module _ (e : Encoding) (table : List ℕ) (dead : Bool) (x : ListEntry) where
     unfolding range_entry turn_of pick
     pair-dead f d = rw (ne_eqb x.kind 1 k, lt-leb x.kind 3 h, eq-eqb x.kind 4 f, d)
 
-    pub pair-live : x.kind ≡ 4 → dead ≡ false → Decided is_live ≡ turn_of (range_entry e table dead x)
+    pub pair-live : x.kind ≡ 4 → dead ≡ false → Decided (Ok is_live) ≡ turn_of (range_entry e table dead x)
     unfolding range_entry turn_of pick
     pair-live f d = rw (ne_eqb x.kind 1 k, lt-leb x.kind 3 h, eq-eqb x.kind 4 f, d)
 
@@ -65,7 +65,7 @@ module _ (e : Encoding) (table : List ℕ) (dead : Bool) (x : ListEntry) where
       unfolding range_entry turn_of pick
       left_out g t = rw (ne_eqb x.kind 1 k, lt-leb x.kind 3 h, ne_eqb x.kind 4 f, ne_eqb x.kind 5 g, sym q ∙ t)
 
-      pub kept : (x.kind ≡ 5 → ⊥) → b ≡ false → Decided is_live ≡ turn_of (range_entry e table dead x)
+      pub kept : (x.kind ≡ 5 → ⊥) → b ≡ false → Decided (Ok is_live) ≡ turn_of (range_entry e table dead x)
       unfolding range_entry turn_of pick
       kept g t = rw (ne_eqb x.kind 1 k, lt-leb x.kind 3 h, ne_eqb x.kind 4 f, ne_eqb x.kind 5 g, sym q ∙ t)
 
@@ -80,20 +80,20 @@ module _ (e : Encoding) (table : List ℕ) (v : Attribute) where
   is_one k = rw k
 
   module _ (b : Bool) (q : b ≡ is_tombstone v.field.value e.address_size) (k : v.form ≡ 1) where
-    pub address-dead : b ≡ true → is_dead ≡ low_pc e table v
+    pub address-dead : b ≡ true → Ok is_dead ≡ low_pc e table v
     unfolding low_pc pick
     address-dead t = rw (is_one k, eq-eqb v.form 1 k, sym q ∙ t)
 
-    pub address-live : b ≡ false → is_live ≡ low_pc e table v
+    pub address-live : b ≡ false → Ok is_live ≡ low_pc e table v
     unfolding low_pc pick
     address-live t = rw (is_one k, eq-eqb v.form 1 k, sym q ∙ t)
 
   module _ (k : v.form ≡ 1 → ⊥) where
-    pub form-low : (v.form ≡ 27 → ⊥) → v.form < 41 → is_live ≡ low_pc e table v
+    pub form-low : (v.form ≡ 27 → ⊥) → v.form < 41 → Ok is_live ≡ low_pc e table v
     unfolding low_pc pick ◌or◌ ◌and◌
     form-low n h = rw (ne_eqb v.form 27 n, lt-leb 41 v.form h, ne_eqb v.form 0x1f01 (λ z. absurd (omega arith)), ne_eqb v.form 1 k)
 
-    pub form-high : (v.form ≡ 27 → ⊥) → 41 ≤ v.form → 44 < v.form → (v.form ≡ 0x1f01 → ⊥) → is_live ≡ low_pc e table v
+    pub form-high : (v.form ≡ 27 → ⊥) → 41 ≤ v.form → 44 < v.form → (v.form ≡ 0x1f01 → ⊥) → Ok is_live ≡ low_pc e table v
     unfolding low_pc pick ◌or◌ ◌and◌
     form-high n l h g = rw (ne_eqb v.form 27 n, le-leb 41 v.form l, lt-leb v.form 44 h, ne_eqb v.form 0x1f01 g, ne_eqb v.form 1 k)
 
@@ -109,15 +109,15 @@ module _ (e : Encoding) (table : List ℕ) (v : Attribute) where
   unfolding ◌or◌ ◌and◌
   form-gnu k = rw k
 
-  module _ (l : AddressLookup) (q : l ≡ lookup_at table v.field.value) (i : indexed ≡ true) where
-    pub index_live : l ≡ Live → is_live ≡ low_pc e table v
+  module _ (l : Result Verdict ℕ) (q : l ≡ lookup_at table v.field.value) (i : indexed ≡ true) where
+    pub index_live : l ≡ Ok is_live → Ok is_live ≡ low_pc e table v
     unfolding low_pc pick on_lookup
     index_live t = rw (i, sym q ∙ t)
 
-    pub index-dead : l ≡ Dead → is_dead ≡ low_pc e table v
+    pub index-dead : l ≡ Ok is_dead → Ok is_dead ≡ low_pc e table v
     unfolding low_pc pick on_lookup
     index-dead t = rw (i, sym q ∙ t)
 
-    pub index-fails : (n : ℕ) → l ≡ Fails n → refused n ≡ low_pc e table v
+    pub index-fails : (n : ℕ) → l ≡ Err n → Err n ≡ low_pc e table v
     unfolding low_pc pick on_lookup
     index-fails n t = rw (i, sym q ∙ t)

@@ -18,9 +18,9 @@ use Rattle.marking.specs.Roots.{ranges_by, root_test, base_after}
 use Rattle.marking.specs.KeepList.{KeepList, keep_refusal, treatment_of, treated}
 use Rattle.readers.specs.EntryAttributes.{Valued, entry_values}
 use Rattle.marking.specs.EntryReferences.{ReferencesFound, found, refused as refused_after, locations_by, attributes_found}
-use Rattle.marking.specs.declared.root_test.Verdict.{Verdict}
+use Rattle.marking.specs.declared.addresses.Verdict.{Verdict}
 use Rattle.marking.specs.declared.setting.Setting.{Setting}
-use Rattle.marking.specs.declared.root_test.Verdict.TheVariants.{Live, Dead, Refused as Failed}
+use Rattle.marking.specs.declared.addresses.Verdict.TheVariants.{Live, Dead}
 use Rattle.readers.specs.Stream.{Item, entry, terminator, items_from}
 
 -- what a unit is read by: the other sections, already relocated, the address table, .debug_ranges, a keep list, and what a
@@ -67,10 +67,10 @@ unfoldable pub onto : EntryRow → Analysed → Analysed
 onto r (analysed rs) = analysed (r ∷ rs)
 onto r (refused n) = refused n
 
-unfoldable pub on_verdict : Verdict → (ℕ → Analysed) → Analysed
-on_verdict Live k = k 1
-on_verdict Dead k = k 0
-on_verdict (Failed n) k = refused n
+unfoldable pub on_verdict : Result Verdict ℕ → (ℕ → Analysed) → Analysed
+on_verdict (Ok Live) k = k 1
+on_verdict (Ok Dead) k = k 0
+on_verdict (Err n) k = refused n
 
 unfoldable pub on_found : ReferencesFound → (List ℕ → Analysed) → Analysed
 on_found (found xs) k = k xs
@@ -99,14 +99,14 @@ module _ (e : Encoding) (x : Sections) (unit : List ℕ) where
   values_of_entry y = entry_values e x.abbreviations y.declaration.attributes.at unit y.values.at
 
   -- the root test of an entry; DW_AT_rnglists_base, DW_AT_loclists_base: from this entry's root test on
-  unfoldable pub test_of : ℕ → Entry → Verdict
+  unfoldable pub test_of : ℕ → Entry → Result Verdict ℕ
   test_of base y =
       let ranges = ranges_for e x.ranges x.debug_ranges in
       let lists = ranges_by ranges x.addresses x.setting.ranges_base base in
       root_test e lists x.setting.fixed_addresses unit (tag_of y) (values_of_entry y)
 
   -- whether an entry is a root: by its root test and the treatment of its tag
-  unfoldable pub root_of : ℕ → Entry → Verdict
+  unfoldable pub root_of : ℕ → Entry → Result Verdict ℕ
   root_of base y = treated (treatment_of x.keep (tag_of y)) (test_of base y)
 
   unfoldable pub names_of : ℕ → Entry → ReferencesFound

@@ -5,7 +5,6 @@ use Rattle.readers.specs.Abbreviations.{index_of}
 use Rattle.readers.specs.declared.header.UnitHeader.{UnitHeader}
 use Rattle.marking.specs.Analysis.{Rooms, rooms, EntryRow, Analysed, analysed, refused}
 use Rattle.marking.specs.declared.analysis.Analysis.{Analysis}
-use Rattle.marking.specs.declared.analysis.Analysis.TheVariants.{Entries, Refused as Refused'}
 
 unfoldable pub offsets_in : List EntryRow → List ℕ
 offsets_in [] = []
@@ -56,6 +55,9 @@ index_after abbreviations (Err k) n = zeros n
 index_after abbreviations (Ok (Some h)) n = index_of abbreviations h.abbreviations n
 
 -- as the code answers it
-unfoldable pub answer_of : Analysed → Analysis
-answer_of (analysed rows) = Entries (length rows) (length (names_in rows))
-answer_of (refused n) = Refused' n
+abbrev pub entries_counted : ℕ → ℕ → Result Analysis ℕ
+entries_counted entries references = Ok (record { entries = entries; references = references })
+
+unfoldable pub answer_of : Analysed → Result Analysis ℕ
+answer_of (analysed rows) = entries_counted (length rows) (length (names_in rows))
+answer_of (refused n) = Err n

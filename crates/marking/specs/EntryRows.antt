@@ -1,5 +1,5 @@
 -- What the rows of an analysis say of the entries of a unit.
-use Rattle.std.specs.Prelude.{◌≡◌, ℕ, suc, List, [], ◌∷◌, ◌⊎◌, take}
+use Rattle.std.specs.Prelude.{◌≡◌, ℕ, suc, List, [], ◌∷◌, ◌⊎◌, take, Ok, Result}
 use Rattle.readers.specs.Codes.{DW_AT_loclists_base, DW_AT_rnglists_base}
 use Rattle.readers.specs.Abbreviations.{Placed, declared_in}
 use Rattle.readers.specs.Nesting.{opened, closed, top}
@@ -9,12 +9,12 @@ use Rattle.readers.specs.declared.entries.Entry.{Entry}
 use Rattle.readers.specs.declared.header.UnitHeader.{UnitHeader}
 use Rattle.marking.specs.EntryReferences.{found}
 use Rattle.marking.specs.Analysis.{Sections, EntryRow, root_of, names_of, base_of}
-use Rattle.marking.specs.declared.root_test.Verdict.{Verdict}
-use Rattle.marking.specs.declared.root_test.Verdict.TheVariants.{Live, Dead}
+use Rattle.marking.specs.declared.addresses.Verdict.{Verdict}
+use Rattle.marking.specs.declared.addresses.Verdict.TheVariants.{Live, Dead}
 
 -- a verdict as a row has it: 1 for a root, 0 for none; a refusal has no row
-abbrev pub Tested : Verdict → ℕ → Type 0
-Tested v root = ((v ≡ Live) × (root ≡ 1)) ⊎ ((v ≡ Dead) × (root ≡ 0))
+abbrev pub Tested : Result Verdict ℕ → ℕ → Type 0
+Tested v root = ((v ≡ Ok Live) × (root ≡ 1)) ⊎ ((v ≡ Ok Dead) × (root ≡ 0))
 
 module _ (e : Encoding) (x : Sections) (unit : List ℕ) where
   -- the row of an entry inside these open ones, rb and lb being the list bases before it: where it starts, the

@@ -1,9 +1,9 @@
 -- A keep list (document 02, Point 10): "a list of tags (0 to 65,535) in ascending order, each with a treatment: 1
 -- always a root, 2 never a root .. Tags not listed are judged as before".
-use Rattle.std.specs.Prelude.{ℕ, suc, ◌+◌, ◌*◌, Bool, true, List, [], ◌∷◌, length, leb, eqb}
+use Rattle.std.specs.Prelude.{ℕ, suc, ◌+◌, ◌*◌, Bool, true, List, [], ◌∷◌, length, leb, eqb, Err, Ok, Result}
 use Rattle.readers.specs.Choice.{pick, ◌and◌, ◌or◌}
-use Rattle.marking.specs.declared.root_test.Verdict.{Verdict}
-use Rattle.marking.specs.declared.root_test.Verdict.TheVariants.{Live, Dead, Refused}
+use Rattle.marking.specs.declared.addresses.Verdict.{Verdict}
+use Rattle.marking.specs.declared.addresses.Verdict.TheVariants.{Live, Dead}
 
 pub record KeepList : Type 0 where
   pub tags : List ℕ
@@ -59,7 +59,7 @@ abbrev pub treatment_of : KeepList → ℕ → ℕ
 treatment_of keep tag = treatment_in keep.tags keep.treatments tag
 
 -- "Every entry still goes through the root test, so malformed ones are refused under every treatment"
-unfoldable pub treated : ℕ → Verdict → Verdict
-treated k Live = pick (eqb k never_root) Dead Live
-treated k Dead = pick (eqb k always_root) Live Dead
-treated k (Refused n) = Refused n
+unfoldable pub treated : ℕ → Result Verdict ℕ → Result Verdict ℕ
+treated k (Ok Live) = pick (eqb k never_root) (Ok Dead) (Ok Live)
+treated k (Ok Dead) = pick (eqb k always_root) (Ok Live) (Ok Dead)
+treated k (Err n) = Err n

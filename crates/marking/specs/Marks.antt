@@ -1,11 +1,9 @@
 -- What `mark` answers (document 01, "mark"): 1 dead, 2 retained, 3 live, or 16.
-use Rattle.std.specs.Prelude.{ℕ, zero, suc, List, Bool, length, get_or, replicate, eqb, leb}
+use Rattle.std.specs.Prelude.{ℕ, zero, suc, List, Bool, length, get_or, replicate, eqb, leb, Err, Ok, Result}
 use Rattle.readers.specs.Choice.{pick, ◌or◌}
 use Rattle.marking.specs.Below.{tab, count}
 use Rattle.marking.specs.Graph.{Graph, size, takes}
 use Rattle.marking.specs.Markings.{justified, is_live, named_by}
-use Rattle.marking.specs.declared.marks.Marked.{Marked}
-use Rattle.marking.specs.declared.marks.Marked.TheVariants.{Kept as KeptCount, Refused}
 
 -- what a list of 0 and 1 marks
 unfoldable pub has : List ℕ → ℕ → Bool
@@ -38,8 +36,8 @@ unfoldable pub kept_count : List ℕ → ℕ
 kept_count m = count (length m) (is_kept m)
 
 -- what `mark` answers, and the marks that it leaves, where n are lent
-unfoldable pub mark_answer : Graph → ℕ → Marked
-mark_answer g n = pick (takes g n) (KeptCount (kept_count (marks_of g))) (Refused 16)
+unfoldable pub mark_answer : Graph → ℕ → Result ℕ ℕ
+mark_answer g n = pick (takes g n) (Ok (kept_count (marks_of g))) (Err 16)
 
 unfoldable pub end_marks : Graph → ℕ → List ℕ
 end_marks g n = pick (takes g n) (marks_of g) (replicate n 0)

@@ -1,12 +1,9 @@
 -- References in a lent table, from a place on.
-use Rattle.std.specs.Prelude.{ℕ, suc, List, [], ◌∷◌, length, set, ltb, Option}
+use Rattle.std.specs.Prelude.{ℕ, suc, List, [], ◌∷◌, length, set, ltb, Option, Err, Ok, Result}
 use Rattle.readers.specs.Choice.{pick}
 use Rattle.readers.specs.declared.cursor.Cursor.{Cursor}
 use Rattle.marking.specs.EntryReferences.{ReferencesFound, found, refused}
-use Rattle.marking.specs.declared.references.Scanned.{Scanned}
-use Rattle.marking.specs.declared.references.Scanned.TheVariants.{To, Refused}
 use Rattle.marking.specs.declared.references.EntryScan.{EntryScan}
-use Rattle.marking.specs.declared.references.EntryScan.TheVariants.{Through, Refused as Refused'}
 
 -- the place after a place of a table; past the table's end by one where it has no room
 unfoldable pub next_place : ℕ → ℕ → ℕ
@@ -23,15 +20,18 @@ written table at [] = table
 written table at (x ∷ xs) = written (set table at x) (next_place (length table) at) xs
 
 -- as the code answers it, and the table that it leaves
-unfoldable pub scanned_to : ℕ → ℕ → ReferencesFound → Scanned
-scanned_to room at (found xs) = To (placed room at xs)
-scanned_to room at (refused xs n) = Refused n
+unfoldable pub scanned_to : ℕ → ℕ → ReferencesFound → Result ℕ ℕ
+scanned_to room at (found xs) = Ok (placed room at xs)
+scanned_to room at (refused xs n) = Err n
 
 unfoldable pub table_after : List ℕ → ℕ → ReferencesFound → List ℕ
 table_after table at (found xs) = written table at xs
 table_after table at (refused xs n) = written table at xs
 
 -- the scan of an entry also says where its values end
-unfoldable pub entry_scanned : Scanned → Option Cursor → EntryScan
-entry_scanned (To place) end = Through place end
-entry_scanned (Refused n) end = Refused' n
+abbrev pub through : ℕ → Option Cursor → Result EntryScan ℕ
+through place end = Ok (record { place = place; end = end })
+
+unfoldable pub entry_scanned : Result ℕ ℕ → Option Cursor → Result EntryScan ℕ
+entry_scanned (Ok place) end = through place end
+entry_scanned (Err n) end = Err n

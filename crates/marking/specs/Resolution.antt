@@ -1,12 +1,11 @@
 -- The references of a unit resolved from offsets to entries, its graph and its marks.
-use Rattle.std.specs.Prelude.{ℕ, suc, ◌≤◌, List, [], ◌∷◌, ◌++◌, length, eqb, None, Option, Some}
+use Rattle.std.specs.Prelude.{ℕ, suc, ◌≤◌, List, [], ◌∷◌, ◌++◌, length, eqb, None, Option, Some, Err, Result}
 use Rattle.readers.specs.Choice.{pick}
 use Rattle.marking.specs.Graph.{Graph, graph}
 use Rattle.marking.specs.Marks.{marks_of, kept_count}
 use Rattle.marking.specs.Analysis.{EntryRow, Analysed, analysed, refused}
 use Rattle.marking.specs.Columns.{offsets_in, parents_in, roots_in}
 use Rattle.marking.specs.declared.units.UnitMarks.{UnitMarks}
-use Rattle.marking.specs.declared.units.UnitMarks.TheVariants.{Marked, Refused as Refused''}
 
 -- the entry that starts at an offset: the offsets from entry k on
 unfoldable pub entry_from : ℕ → List ℕ → ℕ → Option ℕ
@@ -37,9 +36,12 @@ graph_of rows = graph (parents_in rows) (pairs_in rows) (roots_in rows)
 unfoldable pub marks_in : List EntryRow → List ℕ
 marks_in rows = marks_of (graph_of rows)
 
-unfoldable pub unit_marks : Analysed → UnitMarks
-unit_marks (analysed rows) = Marked (length rows) (kept_count (marks_in rows))
-unit_marks (refused n) = Refused'' n
+abbrev pub marked : ℕ → ℕ → Result UnitMarks ℕ
+marked entries kept = Ok (record { entries = entries; kept = kept })
+
+unfoldable pub unit_marks : Analysed → Result UnitMarks ℕ
+unit_marks (analysed rows) = marked (length rows) (kept_count (marks_in rows))
+unit_marks (refused n) = Err n
 
 -- offsets from `low` on, in strictly ascending order
 unfoldable pub Ascending : ℕ → List ℕ → Type 0

@@ -2,12 +2,11 @@
 ghost use Rattle.std.specs.Prelude.{◌≡◌};
 ghost use Rattle.marking.specs.Addresses.{is_tombstone, lookup_at};
 
-// What the address table says of an index: what gc.rs's `is_addr_live` answers. A failure carries its number of refusal.
-#[derive(Clone, Copy)]
-pub enum AddressLookup {
+// What a test of liveness finds.
+#[derive(Clone, Copy, PartialEq, Eq)]
+pub enum Verdict {
     Live,
     Dead,
-    Fails(u8),
 }
 
 // Whether a linker put this address for code that it left out: 0, or all ones in the address's size.
@@ -29,24 +28,24 @@ pub fn is_tombstone(address: u64, size: u8) -> bool
     false
 }
 
-// An index of the address table, one byte an index: 0 dead, 1 live; any other byte fails with 6, an index past its end
-// with 17. Where the table is empty every index is live.
-pub fn lookup(table: &[u8], index: u64) -> AddressLookup
+// An index of the address table, as gc.rs's `is_addr_live` answers it, one byte an index: 0 dead, 1 live; any other byte
+// fails with 6, an index past its end with 17. Where the table is empty every index is live.
+pub fn lookup(table: &[u8], index: u64) -> Result<Verdict, u8>
     ensures { result ≡ lookup_at table.now index }
 {
     if table.len() == 0 {
-        return AddressLookup::Live; // no address is known
+        return Ok(Verdict::Live); // no address is known
     }
     if index >= (table.len() as u64) {
-        return AddressLookup::Fails(17);
+        return Err(17);
     }
     let i = index as usize;
     let b = table[i];
     if b == 0 {
-        return AddressLookup::Dead;
+        return Ok(Verdict::Dead);
     }
     if b == 1 {
-        return AddressLookup::Live;
+        return Ok(Verdict::Live);
     }
-    AddressLookup::Fails(6)
+    Err(6)
 }

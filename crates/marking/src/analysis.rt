@@ -12,9 +12,10 @@ ghost use Rattle.marking.specs.Columns.{offsets_in, parents_in, roots_in, ends_i
 ghost use Rattle.marking.specs.Columns.{index_after, answer_of};
 ghost use Rattle.marking.specs.Inner.Columns.{AnalysisInput, Outcome, headed, refusal_of, entry_answer, entry_table, left_by, unit_found};
 
+use crate::addresses::Verdict;
 use crate::keep_list::{keep_refusal, treat, treatment};
 use crate::references::{EntryScan, scan_live_die_attrs};
-use crate::root_test::{Verdict, base_after, is_root};
+use crate::root_test::{base_after, is_root};
 use crate::setting::Setting;
 use readers::abbreviations::{Checked, check_abbreviations};
 use readers::codes::{DW_AT_loclists_base, DW_AT_rnglists_base};
@@ -25,33 +26,33 @@ use readers::lists::list_base;
 use readers::offsets::EntryIndex;
 use readers::tables::{clear, clear_bytes};
 
-// What is found of an entry: 1 for a root, else 0, the place past its references in the table, and the cursor past it;
-// or the number of a refusal.
+// What is found of an entry: 1 for a root, else 0, the place past its references in the table, and the cursor past it.
 #[derive(Clone, Copy)]
-pub enum EntryAnalysis {
-    Found { root: u8, to: usize, next: Cursor },
-    Refused(u8),
+pub struct EntryAnalysis {
+    pub root: u8,
+    pub to: usize,
+    pub next: Cursor,
 }
 
-// What an analysis answers: how many entries and references there are, or the number of a refusal.
+// What an analysis counts: entries and references.
 #[derive(Clone, Copy)]
-pub enum Analysis {
-    Entries { entries: usize, references: usize },
-    Refused(u8),
+pub struct Analysis {
+    pub entries: usize,
+    pub references: usize,
 }
 
 // The header of a section's first unit, as it was read, and the analysis of its entries.
 #[derive(Clone, Copy)]
 pub struct UnitAnalysis {
     pub header: Result<Option<UnitHeader>, u8>,
-    pub analysis: Analysis,
+    pub analysis: Result<Analysis, u8>,
 }
 
 // What is to be analysed: a unit whose declarations were checked, or the answer where there is none.
 #[derive(Clone, Copy)]
 pub enum UnitFound {
     Unit(UnitHeader),
-    Answered(Analysis),
+    Answered(Result<Analysis, u8>),
 }
 
 // The number of a refusal of an entry: 4 where its values can't be read, which comes before any other.
@@ -78,7 +79,7 @@ fn root_of(
     e: Encoding,
     tags: &[u8],
     treatments: &[u8],
-) -> Verdict
+) -> Result<Verdict, u8>
     requires { keep_refusal (keep_in tags.now treatments.now) ≡ 0 }
     ensures { let lists = ranges_by ranges.now addresses.now setting.ranges_base rnglists_base in
         let attributes = entry_values e abbreviations.now x.declaration.attributes.at unit.now
@@ -119,7 +120,7 @@ fn analyse_entry(
     at: usize,
     tags: &[u8],
     treatments: &[u8],
-) -> EntryAnalysis
+) -> Result<EntryAnalysis, u8>
     requires { keep_refusal (keep_in tags.now treatments.now) ≡ 0 }
     ensures { let lent = sections abbreviations.now locations.now ranges.now
         addresses.now ranges.now (keep_in tags.now treatments.now) setting in
@@ -145,12 +146,16 @@ fn analyse_entry(
         tags,
         treatments,
     ) {
-        Verdict::Live => {
-            root = 1;
+        Ok(verdict) => {
+            match verdict {
+                Verdict::Live => {
+                    root = 1;
+                }
+                Verdict::Dead => {}
+            }
         }
-        Verdict::Dead => {}
-        Verdict::Refused(n) => {
-            return EntryAnalysis::Refused(refusal(unit, abbreviations, x, e, n));
+        Err(n) => {
+            return Err(refusal(unit, abbreviations, x, e, n));
         }
     }
     match scan_live_die_attrs(
@@ -164,17 +169,17 @@ fn analyse_entry(
         targets,
         at,
     ) {
-        EntryScan::Through { place, end } => {
-            match end {
-                Some(next) => EntryAnalysis::Found {
+        Ok(scan) => {
+            match scan.end {
+                Some(next) => Ok(EntryAnalysis {
                     root,
-                    to: place,
+                    to: scan.place,
                     next,
-                },
-                None => EntryAnalysis::Refused(4),
+                }),
+                None => Err(4),
             }
         }
-        EntryScan::Refused(n) => { EntryAnalysis::Refused(refusal(unit, abbreviations, x, e, n)) }
+        Err(n) => { Err(refusal(unit, abbreviations, x, e, n)) }
     }
 }
 
@@ -199,7 +204,7 @@ fn analyse_entries(
     targets: &mut [u64],
     tags: &[u8],
     treatments: &[u8],
-) -> Analysis
+) -> Result<Analysis, u8>
     requires { AnalysisInput abbreviations.now index.now from unit.now entry_room reference_room
         offsets.old parents.old roots.old reference_ends.old targets.old
         (keep_in tags.now treatments.now) }
@@ -220,10 +225,10 @@ fn analyse_entries(
     let mut rnglists_base = list_base(e);
     let mut loclists_base = list_base(e);
     loop {
-        match c.entry_head(unit, abbreviations, from, index) {
-            Some(HeadStep::Entry(x)) => {
+        match c.entry_head(unit, abbreviations, from, index).ok_or(4)? {
+            HeadStep::Entry(x) => {
                 if count >= entry_room {
-                    return Analysis::Refused(refusal(unit, abbreviations, x, e, 10));
+                    return Err(refusal(unit, abbreviations, x, e, 10));
                 }
                 let declaration = x.declaration;
                 let specs = declaration.attributes;
@@ -249,7 +254,11 @@ fn analyse_entries(
                     loclists_base,
                     e,
                 );
-                match analyse_entry(
+                let EntryAnalysis {
+                    root,
+                    to: place,
+                    next,
+                } = analyse_entry(
                     unit,
                     abbreviations,
                     x,
@@ -264,44 +273,28 @@ fn analyse_entries(
                     to,
                     tags,
                     treatments,
-                ) {
-                    EntryAnalysis::Refused(n) => {
-                        return Analysis::Refused(n);
-                    }
-                    EntryAnalysis::Found {
-                        root,
-                        to: place,
-                        next,
-                    } => {
-                        if place > reference_room {
-                            return Analysis::Refused(11);
-                        }
-                        offsets[count] = offset.0;
-                        parents[count] = parent.0;
-                        roots[count] = root;
-                        reference_ends[count] = place as u64;
-                        nesting = nesting.after_entry(
-                            EntryIndex(count as u64),
-                            declaration.children,
-                        );
-                        count += 1;
-                        to = place;
-                        c = next;
-                    }
+                )?;
+                if place > reference_room {
+                    return Err(11);
                 }
+                offsets[count] = offset.0;
+                parents[count] = parent.0;
+                roots[count] = root;
+                reference_ends[count] = place as u64;
+                nesting = nesting.after_entry(EntryIndex(count as u64), declaration.children);
+                count += 1;
+                to = place;
+                c = next;
             }
-            Some(HeadStep::Terminator(next)) => {
+            HeadStep::Terminator(next) => {
                 nesting = nesting.after_terminator(parents);
                 c = next;
             }
-            Some(HeadStep::End) => {
-                return Analysis::Entries {
+            HeadStep::End => {
+                return Ok(Analysis {
                     entries: count,
                     references: to,
-                };
-            }
-            None => {
-                return Analysis::Refused(4);
+                });
             }
         }
     }
@@ -352,13 +345,13 @@ pub fn clear_columns(
 
 // Makes every column zeros after a refusal.
 fn clear_refused(
-    answer: Analysis,
+    answer: Result<Analysis, u8>,
     offsets: &mut [u64],
     parents: &mut [u64],
     roots: &mut [u8],
     reference_ends: &mut [u64],
     targets: &mut [u64],
-) -> Analysis
+) -> Result<Analysis, u8>
     ensures { (result ≡ answer)
         × ((offsets.new ≡ left_by answer offsets.old)
         × ((parents.new ≡ left_by answer parents.old)
@@ -367,16 +360,10 @@ fn clear_refused(
         × (targets.new ≡ left_by answer targets.old))))) }
 {
     match answer {
-        Analysis::Entries {
-            entries,
-            references,
-        } => Analysis::Entries {
-            entries,
-            references,
-        },
-        Analysis::Refused(n) => {
+        Ok(counts) => Ok(counts),
+        Err(n) => {
             clear_columns(offsets, parents, roots, reference_ends, targets);
-            Analysis::Refused(n)
+            Err(n)
         }
     }
 }
@@ -411,7 +398,7 @@ fn analyse_unit<'a>(
     debug_ranges: &'a [u8],
     tags: &[u8],
     treatments: &[u8],
-) -> Analysis
+) -> Result<Analysis, u8>
     requires { AnalysisInput abbreviations.now index.now h.abbreviations (take h.end section.now)
         entry_room reference_room offsets.old parents.old roots.old reference_ends.old targets.old
         (keep_in tags.now treatments.now) }
@@ -457,21 +444,30 @@ fn analyse_unit<'a>(
 
 // The unit of a header, its declarations checked and the index of them filled: a refusal of the header, or of the keep
 // list before it, then 3 of the abbreviations. An empty section has no entries.
-fn find_unit(header: Result<Option<UnitHeader>, u8>, abbreviations: &[u8], index: &mut [u64]) -> UnitFound
+fn find_unit(
+    header: Result<Option<UnitHeader>, u8>,
+    abbreviations: &[u8],
+    index: &mut [u64],
+) -> UnitFound
     ensures { (result ≡ unit_found abbreviations.now header)
         × (index.new ≡ index_after abbreviations.now header (length index.old)) }
 {
     clear(index);
-    match header {
-        Ok(None) => UnitFound::Answered(Analysis::Entries {
+    let first = match header {
+        Ok(first) => first,
+        Err(n) => {
+            return UnitFound::Answered(Err(n));
+        }
+    };
+    match first {
+        None => UnitFound::Answered(Ok(Analysis {
             entries: 0,
             references: 0,
-        }),
-        Err(n) => UnitFound::Answered(Analysis::Refused(n)),
-        Ok(Some(h)) => {
+        })),
+        Some(h) => {
             let Checked::Accepted = check_abbreviations(abbreviations, h.abbreviations, index)
             else {
-                return UnitFound::Answered(Analysis::Refused(3));
+                return UnitFound::Answered(Err(3));
             };
             UnitFound::Unit(h)
         }
@@ -480,7 +476,12 @@ fn find_unit(header: Result<Option<UnitHeader>, u8>, abbreviations: &[u8], index
 
 // The header of a section's first unit, before which the keep list is judged: 19 and 20 come before anything of the
 // unit.
-fn listed_header(section: &[u8], big_endian: bool, tags: &[u8], treatments: &[u8]) -> Result<Option<UnitHeader>, u8>
+fn listed_header(
+    section: &[u8],
+    big_endian: bool,
+    tags: &[u8],
+    treatments: &[u8],
+) -> Result<Option<UnitHeader>, u8>
     ensures { result ≡ after_list (keep_refusal (keep_in tags.now treatments.now))
         (header_of big_endian section.now) }
 {

@@ -3,7 +3,7 @@ ghost use Rattle.std.specs.Prelude.{◌≡◌, ◌/◌, ◌<◌, length, get_or}
 ghost use Rattle.marking.specs.KeepList.{tags_in, keep_in, is_treatment, each_treats, ascends, keep_refusal};
 ghost use Rattle.marking.specs.KeepList.{treatment_of, treated};
 
-use crate::root_test::Verdict;
+use crate::addresses::Verdict;
 
 // The treatments of a tag: entries that have it are always roots, or never.
 const ALWAYS_ROOT: u8 = 1;
@@ -112,22 +112,21 @@ pub(crate) fn treatment(tags: &[u8], treatments: &[u8], tag: u64) -> u8
 }
 
 // What a treatment makes of the root test's verdict. A refusal stays one.
-pub(crate) fn treat(verdict: Verdict, k: u8) -> Verdict
+pub(crate) fn treat(verdict: Result<Verdict, u8>, k: u8) -> Result<Verdict, u8>
     ensures { result ≡ treated k verdict }
 {
-    match verdict {
+    match verdict? {
         Verdict::Live => {
             if k == NEVER_ROOT {
-                return Verdict::Dead;
+                return Ok(Verdict::Dead);
             }
-            Verdict::Live
+            Ok(Verdict::Live)
         }
         Verdict::Dead => {
             if k == ALWAYS_ROOT {
-                return Verdict::Live;
+                return Ok(Verdict::Live);
             }
-            Verdict::Dead
+            Ok(Verdict::Dead)
         }
-        Verdict::Refused(n) => Verdict::Refused(n),
     }
 }

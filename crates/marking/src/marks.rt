@@ -216,13 +216,6 @@ fn count_kept(marks: &[u8]) -> usize
     n
 }
 
-// How many entries are kept, or the number of the refusal.
-#[derive(Clone, Copy)]
-pub enum Marked {
-    Kept(usize),
-    Refused(u8),
-}
-
 // `mark` with memory: a work column, best of zeros and with two numbers an entry, changes its time alone, and so does
 // where the references of each entry end, best as long as the entries and with a pair for each reference. The rounds
 // start from marks that are spread already, and where the pairs stand by holder the first one raises none and is the
@@ -234,20 +227,20 @@ pub(crate) fn mark_with(
     marks: &mut [u8],
     work: &mut [u32],
     reference_ends: &[u64],
-) -> Marked
+) -> Result<usize, u8>
     ensures { let lent = graph parents.now pairs.now roots.now in
         (result ≡ mark_answer lent (length marks.old))
         × (marks.new ≡ end_marks lent (length marks.old)) }
 {
     if !takes(parents, pairs, roots, marks.len()) {
         clear_bytes(marks);
-        return Marked::Refused(16);
+        return Err(16);
     }
     start(roots, marks);
     spread(parents, pairs, marks, work, reference_ends);
     while round(parents, pairs, marks) {}
     end_first(pairs, marks);
-    Marked::Kept(count_kept(marks))
+    Ok(count_kept(marks))
 }
 
 // Marks each entry 1 dead, 2 retained, 3 live. Pairs are two numbers each, the entry that holds the reference and the
@@ -257,7 +250,7 @@ pub(crate) fn mark_with(
 // round that raises no mark is the last. A chain of references is followed in one round where its pairs stand in its
 // order, one link a round where they stand against it. A mark rises at most twice, so n entries take at most 2n + 1
 // rounds. The marks of a unit are made by `mark_with`.
-pub fn mark(parents: &[u64], pairs: &[u64], roots: &[u8], marks: &mut [u8]) -> Marked
+pub fn mark(parents: &[u64], pairs: &[u64], roots: &[u8], marks: &mut [u8]) -> Result<usize, u8>
     ensures { let lent = graph parents.now pairs.now roots.now in
         (result ≡ mark_answer lent (length marks.old))
         × (marks.new ≡ end_marks lent (length marks.old)) }

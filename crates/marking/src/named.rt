@@ -48,8 +48,8 @@ pub(crate) fn next_named(
     let mut p = specs;
     let mut c = values;
     loop {
-        match p.attribute_spec(abbreviations) {
-            Some(SpecStep::Attribute(a)) => {
+        match p.attribute_spec(abbreviations)? {
+            SpecStep::Attribute(a) => {
                 if a.name == name {
                     return attribute_of(unit, a, c, e);
                 }
@@ -58,10 +58,7 @@ pub(crate) fn next_named(
                 c = past;
                 p = next;
             }
-            Some(SpecStep::Last(_)) => {
-                return None;
-            }
-            None => {
+            SpecStep::Last(_) => {
                 return None;
             }
         }

@@ -1,6 +1,6 @@
 // The references of an entry, into a lent table of offsets. scan_live_die_attrs and scan_loclist_for_refs have the
 // names of their originals in gc.rs.
-ghost use Rattle.std.specs.Prelude.{◌≡◌, length, set};
+ghost use Rattle.std.specs.Prelude.{◌≡◌, length, set, Some};
 ghost use Rattle.readers.specs.Abbreviations.{spec_at};
 ghost use Rattle.readers.specs.Entries.{values_at};
 ghost use Rattle.readers.specs.References.{flat_from};
@@ -11,7 +11,6 @@ ghost use Rattle.marking.specs.Inner.ReferenceTable.{valued_by};
 ghost use Rattle.marking.specs.ReferenceTable.{entry_scanned};
 ghost use Rattle.readers.specs.EntryAttributes.{entry_values};
 ghost use Rattle.readers.specs.Inner.EntryAttributes.{end_by};
-ghost use Rattle.readers.specs.declared.lists.ListOffset.TheVariants.{At};
 
 use readers::abbreviations::SpecStep;
 use readers::codes::{
@@ -22,23 +21,16 @@ use readers::codes::{
 use readers::cursor::{Cursor, Encoding};
 use readers::entry_attributes::{EntryAttribute, next_attribute};
 use readers::expressions::{Reference, walk_expression};
-use readers::lists::{Cursor, list_offset, list_start};
+use readers::lists::{list_offset, list_start};
 use readers::offsets::UnitOffset;
 use readers::operations::{ListEntry, ListStep};
 
-// What a scan finds: the place past its last reference in the table, past the table's end where it has no room for all;
-// or the number of a refusal.
+// A scan answers the place past its last reference in the table, past the table's end where it has no room for all; or
+// the number of a refusal. That of an entry also answers where the values of its attributes end.
 #[derive(Clone, Copy)]
-pub enum Scanned {
-    To(usize),
-    Refused(u8),
-}
-
-// What the scan of an entry finds: that place, and where the values of its attributes end; or the number of a refusal.
-#[derive(Clone, Copy)]
-pub enum EntryScan {
-    Through { place: usize, end: Option<Cursor> },
-    Refused(u8),
+pub struct EntryScan {
+    pub place: usize,
+    pub end: Option<Cursor>,
 }
 
 // Puts one reference at a place, if the table has it, and answers the next place.
@@ -71,36 +63,41 @@ fn put_references(s: &[u8], e: Encoding, targets: &mut [u64], at: usize) -> usiz
 }
 
 // The references of an expression: 5 where it is unreadable, 7 where it names something by an offset in the section.
-fn scan_expression(s: &[u8], e: Encoding, targets: &mut [u64], at: usize) -> Scanned
+fn scan_expression(s: &[u8], e: Encoding, targets: &mut [u64], at: usize) -> Result<usize, u8>
     ensures { let found = expression_found e s.now in
         (result ≡ scanned_to (length targets.old) at found)
         × (targets.new ≡ table_after targets.old at found) }
 {
-    let Some((references, absolute)) = walk_expression(s, e)
-    else {
-        return Scanned::Refused(5);
+    let Some((references, absolute)) = walk_expression(s, e) else {
+        return Err(5);
     };
     if absolute {
-        return Scanned::Refused(7);
+        return Err(7);
     }
     if references == 0 {
-        return Scanned::To(at);
+        return Ok(at);
     }
-    Scanned::To(put_references(s, e, targets, at))
+    Ok(put_references(s, e, targets, at))
 }
 
 // The references of a location list's entry: base addresses have no expression, a default location has it first, the
 // others third.
-fn scan_location(s: &[u8], x: ListEntry, e: Encoding, targets: &mut [u64], at: usize) -> Scanned
+fn scan_location(
+    s: &[u8],
+    x: ListEntry,
+    e: Encoding,
+    targets: &mut [u64],
+    at: usize,
+) -> Result<usize, u8>
     ensures { let found = location_found e s.now x in
         (result ≡ scanned_to (length targets.old) at found)
         × (targets.new ≡ table_after targets.old at found) }
 {
     if x.kind == DW_LLE_base_addressx {
-        return Scanned::To(at);
+        return Ok(at);
     }
     if x.kind == DW_LLE_base_address {
-        return Scanned::To(at);
+        return Ok(at);
     }
     if x.kind == DW_LLE_default_location {
         let first = x.first;
@@ -117,32 +114,22 @@ fn scan_loclist_for_refs(
     e: Encoding,
     targets: &mut [u64],
     at: usize,
-) -> Scanned
-    ensures { let found = list_found e s.now (At start) in
+) -> Result<usize, u8>
+    ensures { let found = list_found e s.now (Some start) in
         (result ≡ scanned_to (length targets.old) at found)
         × (targets.new ≡ table_after targets.old at found) }
 {
     let mut c = start;
     let mut to = at;
     loop {
-        match c.list_entry(s, true, e) {
-            Some(ListStep::Entry(x)) => {
+        match c.list_entry(s, true, e).ok_or(5)? {
+            ListStep::Entry(x) => {
                 let next = x.next;
-                match scan_location(s, x, e, targets, to) {
-                    Scanned::To(place) => {
-                        to = place;
-                    }
-                    Scanned::Refused(n) => {
-                        return Scanned::Refused(n);
-                    }
-                }
+                to = scan_location(s, x, e, targets, to)?;
                 c = next;
             }
-            Some(ListStep::End) => {
-                return Scanned::To(to);
-            }
-            None => {
-                return Scanned::Refused(5);
+            ListStep::End => {
+                return Ok(to);
             }
         }
     }
@@ -155,15 +142,12 @@ fn scan_loclist_at(
     e: Encoding,
     targets: &mut [u64],
     at: usize,
-) -> Scanned
+) -> Result<usize, u8>
     ensures { let found = list_found e s.now start in
         (result ≡ scanned_to (length targets.old) at found)
         × (targets.new ≡ table_after targets.old at found) }
 {
-    match start {
-        Some(c) => scan_loclist_for_refs(s, c, e, targets, at),
-        None => Scanned::Refused(5),
-    }
+    scan_loclist_for_refs(s, start.ok_or(5)?, e, targets, at)
 }
 
 // The references of an attribute.
@@ -175,7 +159,7 @@ fn scan_attribute(
     e: Encoding,
     targets: &mut [u64],
     at: usize,
-) -> Scanned
+) -> Result<usize, u8>
     ensures { let lists = locations_by unit.now locations.now loclists_base in
         let found = attribute_found e lists (valued_by a) in
         (result ≡ scanned_to (length targets.old) at found)
@@ -185,21 +169,21 @@ fn scan_attribute(
     let field = v.field;
     let form = v.form;
     if a.name == DW_AT_sibling {
-        return Scanned::To(at);
+        return Ok(at);
     }
     if a.declared == DW_FORM_ref_addr {
-        return Scanned::Refused(7);
+        return Err(7);
     }
     if form == DW_FORM_exprloc {
         return scan_expression(field.expression(unit), e, targets, at);
     }
     if form >= DW_FORM_ref1 {
         if form <= DW_FORM_ref_udata {
-            return Scanned::To(put(targets, at, UnitOffset(field.value)));
+            return Ok(put(targets, at, UnitOffset(field.value)));
         }
     }
     if a.name != DW_AT_location {
-        return Scanned::To(at);
+        return Ok(at);
     }
     if form == DW_FORM_loclistx {
         return scan_loclist_at(
@@ -219,7 +203,7 @@ fn scan_attribute(
             at,
         );
     }
-    Scanned::To(at)
+    Ok(at)
 }
 
 // Where the values of an entry end, by the place that no attribute was read at: there, if its specifications end there
@@ -227,10 +211,9 @@ fn scan_attribute(
 fn values_end(abbreviations: &[u8], specs: Cursor, values: Cursor) -> Option<Cursor>
     ensures { result ≡ end_by values.at (spec_at abbreviations.now specs.at) }
 {
-    match specs.attribute_spec(abbreviations) {
-        Some(SpecStep::Attribute(_)) => None,
-        Some(SpecStep::Last(_)) => Some(values),
-        None => None,
+    match specs.attribute_spec(abbreviations)? {
+        SpecStep::Attribute(_) => None,
+        SpecStep::Last(_) => Some(values),
     }
 }
 
@@ -246,7 +229,7 @@ pub fn scan_live_die_attrs(
     e: Encoding,
     targets: &mut [u64],
     at: usize,
-) -> EntryScan
+) -> Result<EntryScan, u8>
     ensures { let lists = locations_by unit.now locations.now loclists_base in
         let attributes = entry_values e abbreviations.now specs.at unit.now values.at in
         let end = values_at e abbreviations.now specs.at unit.now values.at in
@@ -259,21 +242,14 @@ pub fn scan_live_die_attrs(
     let mut to = at;
     loop {
         let Some(a) = next_attribute(unit, abbreviations, p, c, e) else {
-            return EntryScan::Through {
+            return Ok(EntryScan {
                 place: to,
                 end: values_end(abbreviations, p, c),
-            };
+            });
         };
         let next = a.next;
         let past = a.values;
-        match scan_attribute(unit, locations, loclists_base, a, e, targets, to) {
-            Scanned::To(place) => {
-                to = place;
-            }
-            Scanned::Refused(n) => {
-                return EntryScan::Refused(n);
-            }
-        }
+        to = scan_attribute(unit, locations, loclists_base, a, e, targets, to)?;
         c = past;
         p = next;
     }

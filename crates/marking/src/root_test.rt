@@ -1,13 +1,12 @@
 // The root test of an entry: what is live by itself, then over the attributes of an entry. ranges_has_live_entry,
 // location_expr_live and is_root have the names of their originals in gc.rs.
-ghost use Rattle.std.specs.Prelude.{◌≡◌};
+ghost use Rattle.std.specs.Prelude.{◌≡◌, Some};
 ghost use Rattle.marking.specs.Roots.{turn_of, range_entry, older_live, range_pair, pairs_live, operation_live};
 ghost use Rattle.marking.specs.Roots.{location_live, low_pc, low_pcs, locations, other_ranges, ranges_by, first_ranges};
 ghost use Rattle.readers.specs.EntryAttributes.{entry_values};
 ghost use Rattle.marking.specs.Roots.{root_test, base_after};
-ghost use Rattle.readers.specs.declared.lists.ListOffset.TheVariants.{At};
 
-use crate::addresses::{AddressLookup, is_tombstone, lookup};
+use crate::addresses::{Verdict, is_tombstone, lookup};
 use crate::named::next_named;
 use crate::setting::Setting;
 use readers::abbreviations::SpecStep;
@@ -22,24 +21,16 @@ use readers::cursor::{Cursor, Encoding};
 use readers::entry_attributes::EntryAttribute;
 use readers::fields::Operands;
 use readers::layouts::{ROW_ADDRESS, ROW_ADDRESS_ADDRESS, ROW_ADDRESS_INDEX};
-use readers::lists::{Cursor, list_offset, list_start};
+use readers::lists::{list_offset, list_start};
 use readers::operations::{ListEntry, ListStep, Operation};
 
 // ---- an address, a list, an expression
-
-// What a test of liveness finds: live, dead, or the number of a refusal.
-#[derive(Clone, Copy)]
-pub enum Verdict {
-    Live,
-    Dead,
-    Refused(u8),
-}
 
 // What an entry of a range list does: the list goes on, and whether its latest base is dead; or it is decided.
 #[derive(Clone, Copy)]
 pub enum RangeTurn {
     On(bool),
-    Decided(Verdict),
+    Decided(Result<Verdict, u8>),
 }
 
 // An entry of a range list, whose latest base was dead or not: one turn of gc.rs's `rnglist_has_live_entry`, whose loop
@@ -51,23 +42,27 @@ pub fn range_entry(table: &[u8], dead: bool, x: ListEntry, e: Encoding) -> Range
     let kind = x.kind;
     if kind == DW_RLE_base_addressx {
         return match lookup(table, first.value) {
-            AddressLookup::Live => RangeTurn::On(false),
-            AddressLookup::Dead => RangeTurn::On(true),
-            AddressLookup::Fails(n) => RangeTurn::Decided(Verdict::Refused(n)),
+            Ok(verdict) => match verdict {
+                Verdict::Live => RangeTurn::On(false),
+                Verdict::Dead => RangeTurn::On(true),
+            },
+            Err(n) => RangeTurn::Decided(Err(n)),
         };
     }
     if kind <= DW_RLE_startx_length {
         return match lookup(table, first.value) {
-            AddressLookup::Live => RangeTurn::Decided(Verdict::Live),
-            AddressLookup::Dead => RangeTurn::On(dead),
-            AddressLookup::Fails(n) => RangeTurn::Decided(Verdict::Refused(n)),
+            Ok(verdict) => match verdict {
+                Verdict::Live => RangeTurn::Decided(Ok(Verdict::Live)),
+                Verdict::Dead => RangeTurn::On(dead),
+            },
+            Err(n) => RangeTurn::Decided(Err(n)),
         };
     }
     if kind == DW_RLE_offset_pair {
         if dead {
             return RangeTurn::On(dead);
         }
-        return RangeTurn::Decided(Verdict::Live);
+        return RangeTurn::Decided(Ok(Verdict::Live));
     }
     let left_out = is_tombstone(first.value, e.address_size);
     if kind == DW_RLE_base_address {
@@ -76,27 +71,24 @@ pub fn range_entry(table: &[u8], dead: bool, x: ListEntry, e: Encoding) -> Range
     if left_out {
         return RangeTurn::On(dead);
     }
-    RangeTurn::Decided(Verdict::Live)
+    RangeTurn::Decided(Ok(Verdict::Live))
 }
 
 // The older test of a range list of version 5: base_address is skipped, every other entry is live.
-pub fn ranges_has_live_entry(ranges: &[u8], start: Cursor, e: Encoding) -> Verdict
-    ensures { result ≡ older_live e ranges.now (At start) }
+pub fn ranges_has_live_entry(ranges: &[u8], start: Cursor, e: Encoding) -> Result<Verdict, u8>
+    ensures { result ≡ older_live e ranges.now (Some start) }
 {
     let mut c = start;
     loop {
-        match c.list_entry(ranges, false, e) {
-            Some(ListStep::Entry(x)) => {
+        match c.list_entry(ranges, false, e).ok_or(5)? {
+            ListStep::Entry(x) => {
                 if x.kind != DW_RLE_base_address {
-                    return Verdict::Live;
+                    return Ok(Verdict::Live);
                 }
                 c = x.next;
             }
-            Some(ListStep::End) => {
-                return Verdict::Dead;
-            }
-            None => {
-                return Verdict::Refused(5);
+            ListStep::End => {
+                return Ok(Verdict::Dead);
             }
         }
     }
@@ -115,7 +107,7 @@ pub fn range_pair(dead: bool, r: Operands, e: Encoding) -> RangeTurn
     let begin_dead = is_tombstone(begin, e.address_size);
     if begin == 0 {
         if end == 0 {
-            return RangeTurn::Decided(Verdict::Dead);
+            return RangeTurn::Decided(Ok(Verdict::Dead));
         }
     } else if begin_dead {
         return RangeTurn::On(is_tombstone(end, e.address_size));
@@ -126,19 +118,17 @@ pub fn range_pair(dead: bool, r: Operands, e: Encoding) -> RangeTurn
     if begin_dead {
         return RangeTurn::On(dead);
     }
-    RangeTurn::Decided(Verdict::Live)
+    RangeTurn::Decided(Ok(Verdict::Live))
 }
 
 // The test of a range list of version 4, by its pairs.
-pub fn pairs_live(ranges: &[u8], start: Cursor, e: Encoding) -> Verdict
-    ensures { result ≡ pairs_live e ranges.now (At start) }
+pub fn pairs_live(ranges: &[u8], start: Cursor, e: Encoding) -> Result<Verdict, u8>
+    ensures { result ≡ pairs_live e ranges.now (Some start) }
 {
     let mut c = start;
     let mut base_dead = false;
     while c.at < ranges.len() {
-        let Some(r) = c.row(ranges, ROW_ADDRESS_ADDRESS, e) else {
-            return Verdict::Refused(5);
-        };
+        let r = c.row(ranges, ROW_ADDRESS_ADDRESS, e).ok_or(5)?;
         let third = r.third;
         match range_pair(base_dead, r, e) {
             RangeTurn::On(flag) => {
@@ -150,7 +140,7 @@ pub fn pairs_live(ranges: &[u8], start: Cursor, e: Encoding) -> Verdict
             }
         }
     }
-    Verdict::Dead
+    Ok(Verdict::Dead)
 }
 
 // What an operation of a location says: an index of the address table what the table says of it; an address, where
@@ -161,7 +151,7 @@ pub fn operation_live(
     table: &[u8],
     fixed_addresses: bool,
     e: Encoding,
-) -> AddressLookup
+) -> Result<Verdict, u8>
     ensures { result ≡ operation_live e fixed_addresses table.now op }
 {
     let first = op.first;
@@ -169,73 +159,69 @@ pub fn operation_live(
         return lookup(table, first.value);
     }
     if !fixed_addresses {
-        return AddressLookup::Dead;
+        return Ok(Verdict::Dead);
     }
     if op.row != ROW_ADDRESS {
-        return AddressLookup::Dead;
+        return Ok(Verdict::Dead);
     }
     if is_tombstone(first.value, e.address_size) {
-        return AddressLookup::Dead;
+        return Ok(Verdict::Dead);
     }
-    AddressLookup::Live
+    Ok(Verdict::Live)
 }
 
 // Whether a variable's location holds a live index of the address table or, where fixed addresses count, an address
 // that is no tombstone. It is read to its end; nested entry values are stepped over.
-pub fn location_expr_live(s: &[u8], table: &[u8], fixed_addresses: bool, e: Encoding) -> Verdict
+pub fn location_expr_live(
+    s: &[u8],
+    table: &[u8],
+    fixed_addresses: bool,
+    e: Encoding,
+) -> Result<Verdict, u8>
     ensures { result ≡ location_live e fixed_addresses table.now s.now }
 {
     let mut c = Cursor { at: 0 };
     let mut live = false;
     while c.at < s.len() {
-        let Some(op) = c.operation(s, e) else {
-            return Verdict::Refused(5);
-        };
+        let op = c.operation(s, e).ok_or(5)?;
         let next = op.next;
-        match operation_live(op, table, fixed_addresses, e) {
-            AddressLookup::Live => {
+        match operation_live(op, table, fixed_addresses, e)? {
+            Verdict::Live => {
                 live = true;
             }
-            AddressLookup::Dead => {}
-            AddressLookup::Fails(n) => {
-                return Verdict::Refused(n);
-            }
+            Verdict::Dead => {}
         }
         c = next;
     }
     if live {
-        return Verdict::Live;
+        return Ok(Verdict::Live);
     }
-    Verdict::Dead
+    Ok(Verdict::Dead)
 }
 
 // A low_pc: an index asks the table, an address the tombstone test, any other form is live.
-pub fn low_pc(v: Attribute, table: &[u8], e: Encoding) -> Verdict
+pub fn low_pc(v: Attribute, table: &[u8], e: Encoding) -> Result<Verdict, u8>
     ensures { result ≡ low_pc e table.now v }
 {
     let field = v.field;
     let form = v.form;
     if form == DW_FORM_addr {
         if is_tombstone(field.value, e.address_size) {
-            return Verdict::Dead;
+            return Ok(Verdict::Dead);
         }
-        return Verdict::Live;
+        return Ok(Verdict::Live);
     }
     if form != DW_FORM_addrx {
         if form < DW_FORM_addrx1 {
-            return Verdict::Live;
+            return Ok(Verdict::Live);
         }
         if form > DW_FORM_addrx4 {
             if form != DW_FORM_GNU_addr_index {
-                return Verdict::Live;
+                return Ok(Verdict::Live);
             }
         }
     }
-    match lookup(table, field.value) {
-        AddressLookup::Live => Verdict::Live,
-        AddressLookup::Dead => Verdict::Dead,
-        AddressLookup::Fails(n) => Verdict::Refused(n),
-    }
+    lookup(table, field.value)
 }
 
 // ---- over the attributes of an entry
@@ -248,7 +234,7 @@ pub fn low_pcs(
     values: Cursor,
     table: &[u8],
     e: Encoding,
-) -> Verdict
+) -> Result<Verdict, u8>
     ensures { let attributes = entry_values e abbreviations.now specs.at unit.now values.at in
         result ≡ low_pcs e table.now attributes }
 {
@@ -256,19 +242,16 @@ pub fn low_pcs(
     let mut c = values;
     loop {
         let Some(a) = next_named(unit, abbreviations, p, c, DW_AT_low_pc, e) else {
-            return Verdict::Dead;
+            return Ok(Verdict::Dead);
         };
         let v = a.value;
         let next = a.next;
         let past = a.values;
-        match low_pc(v, table, e) {
+        match low_pc(v, table, e)? {
             Verdict::Live => {
-                return Verdict::Live;
+                return Ok(Verdict::Live);
             }
             Verdict::Dead => {}
-            Verdict::Refused(n) => {
-                return Verdict::Refused(n);
-            }
         }
         c = past;
         p = next;
@@ -284,7 +267,7 @@ pub fn locations_live(
     table: &[u8],
     fixed_addresses: bool,
     e: Encoding,
-) -> Verdict
+) -> Result<Verdict, u8>
     ensures { let attributes = entry_values e abbreviations.now specs.at unit.now values.at in
         result ≡ locations e fixed_addresses table.now unit.now attributes }
 {
@@ -292,21 +275,18 @@ pub fn locations_live(
     let mut c = values;
     loop {
         let Some(a) = next_named(unit, abbreviations, p, c, DW_AT_location, e) else {
-            return Verdict::Dead;
+            return Ok(Verdict::Dead);
         };
         let v = a.value;
         let field = v.field;
         let next = a.next;
         let past = a.values;
         if v.form == DW_FORM_exprloc {
-            match location_expr_live(field.expression(unit), table, fixed_addresses, e) {
+            match location_expr_live(field.expression(unit), table, fixed_addresses, e)? {
                 Verdict::Live => {
-                    return Verdict::Live;
+                    return Ok(Verdict::Live);
                 }
                 Verdict::Dead => {}
-                Verdict::Refused(n) => {
-                    return Verdict::Refused(n);
-                }
             }
         }
         c = past;
@@ -316,23 +296,28 @@ pub fn locations_live(
 
 // Ranges that are not in rnglistx: a section offset from the base, in version 4 by the pairs there, else by the older
 // test; what can't be resolved, and any other form, is live.
-pub fn other_ranges(v: Attribute, ranges: &[u8], ranges_base: u64, e: Encoding) -> Verdict
+pub fn other_ranges(
+    v: Attribute,
+    ranges: &[u8],
+    ranges_base: u64,
+    e: Encoding,
+) -> Result<Verdict, u8>
     ensures { result ≡ other_ranges e ranges.now ranges_base v }
 {
     let field = v.field;
     if v.form != DW_FORM_sec_offset {
-        return Verdict::Live;
+        return Ok(Verdict::Live);
     }
     let len = ranges.len() as u64;
     if ranges_base > len {
-        return Verdict::Live;
+        return Ok(Verdict::Live);
     }
     if field.value > len - ranges_base {
-        return Verdict::Live;
+        return Ok(Verdict::Live);
     }
     let at = ranges_base + field.value;
     let Some(start) = list_start(ranges, at) else {
-        return Verdict::Live;
+        return Ok(Verdict::Live);
     };
     if e.version == 4 {
         return pairs_live(ranges, start, e);
@@ -352,17 +337,20 @@ pub fn first_ranges(
     ranges_base: u64,
     rnglists_base: u64,
     e: Encoding,
-) -> Verdict
+) -> Result<Verdict, u8>
     ensures { let lists = ranges_by ranges.now table.now ranges_base rnglists_base in
         let attributes = entry_values e abbreviations.now specs.at unit.now values.at in
         result ≡ first_ranges e lists attributes }
 {
     let mut p = specs;
     let mut c = values;
-    let mut verdict = Verdict::Dead;
+    let mut verdict = Ok(Verdict::Dead);
     'attributes: loop {
-        match p.attribute_spec(abbreviations) {
-            Some(SpecStep::Attribute(a)) => {
+        let Some(step) = p.attribute_spec(abbreviations) else {
+            break 'attributes;
+        };
+        match step {
+            SpecStep::Attribute(a) => {
                 if a.name == DW_AT_ranges {
                     let Some(v) = c.attribute(unit, a.name, a.form, e) else {
                         break 'attributes;
@@ -371,15 +359,14 @@ pub fn first_ranges(
                     if v.form != DW_FORM_rnglistx {
                         return other_ranges(v, ranges, ranges_base, e);
                     }
-                    let Some(start) = list_offset(ranges, rnglists_base, field.value, e)
-                    else {
-                        return Verdict::Live;
+                    let Some(start) = list_offset(ranges, rnglists_base, field.value, e) else {
+                        return Ok(Verdict::Live);
                     };
                     let mut place = start;
                     let mut dead = false;
                     loop {
-                        match place.list_entry(ranges, false, e) {
-                            Some(ListStep::Entry(x)) => {
+                        match place.list_entry(ranges, false, e).ok_or(5)? {
+                            ListStep::Entry(x) => {
                                 let after = x.next;
                                 match range_entry(table, dead, x, e) {
                                     RangeTurn::On(flag) => {
@@ -392,11 +379,8 @@ pub fn first_ranges(
                                     }
                                 }
                             }
-                            Some(ListStep::End) => {
-                                return Verdict::Dead;
-                            }
-                            None => {
-                                return Verdict::Refused(5);
+                            ListStep::End => {
+                                return Ok(Verdict::Dead);
                             }
                         }
                     }
@@ -408,10 +392,7 @@ pub fn first_ranges(
                 c = past;
                 p = next;
             }
-            Some(SpecStep::Last(_)) => {
-                break 'attributes;
-            }
-            None => {
+            SpecStep::Last(_) => {
                 break 'attributes;
             }
         }
@@ -433,14 +414,14 @@ pub fn is_root(
     setting: Setting,
     rnglists_base: u64,
     e: Encoding,
-) -> Verdict
+) -> Result<Verdict, u8>
     ensures { let lists = ranges_by ranges.now table.now setting.ranges_base rnglists_base in
         let attributes = entry_values e abbreviations.now specs.at unit.now values.at in
         result ≡ root_test e lists setting.fixed_addresses unit.now tag attributes }
 {
     if tag == DW_TAG_subprogram {
-        return match low_pcs(unit, abbreviations, specs, values, table, e) {
-            Verdict::Live => Verdict::Live,
+        return match low_pcs(unit, abbreviations, specs, values, table, e)? {
+            Verdict::Live => Ok(Verdict::Live),
             Verdict::Dead => first_ranges(
                 unit,
                 abbreviations,
@@ -452,7 +433,6 @@ pub fn is_root(
                 rnglists_base,
                 e,
             ),
-            Verdict::Refused(n) => Verdict::Refused(n),
         };
     }
     if tag == DW_TAG_variable {
@@ -466,7 +446,7 @@ pub fn is_root(
             e,
         );
     }
-    Verdict::Dead
+    Ok(Verdict::Dead)
 }
 
 // A list base after an entry with a tag: a compile unit's own attribute of that name in sec_offset replaces it; of

@@ -9,35 +9,28 @@ ghost use Rattle.marking.specs.Resolution.{entry_from, pairs_of_entry, pairs_in,
 ghost use Rattle.marking.specs.Inner.Resolution.{as_entry, Searched, ResolveInput, ReferenceColumns, Resolvable, UnitColumns, Markable};
 
 use crate::analysis::{Analysis, analyse};
-use crate::marks::{Marked, mark_with};
+use crate::marks::mark_with;
 use crate::setting::Setting;
 use readers::header::UnitHeader;
 use readers::offsets::{EntryIndex, UnitOffset};
 use readers::tables::{clear, clear_bytes, clear_indexes};
 
-// What marking a unit answers: how many entries it has and how many are kept, or the number of a refusal.
+// What marking a unit counts: its entries, and those that are kept.
 #[derive(Clone, Copy)]
-pub enum UnitMarks {
-    Marked { entries: usize, kept: usize },
-    Refused(u8),
+pub struct UnitMarks {
+    pub entries: usize,
+    pub kept: usize,
 }
 
 // The header of a section's first unit, as it was read, and the marks of its entries.
 #[derive(Clone, Copy)]
 pub struct UnitMarking {
     pub header: Result<Option<UnitHeader>, u8>,
-    pub marks: UnitMarks,
-}
-
-// An entry, by its index.
-#[derive(Clone, Copy)]
-pub enum EntryFound {
-    Entry(EntryIndex),
-    Nothing,
+    pub marks: Result<UnitMarks, u8>,
 }
 
 // The entry that starts at an offset, among the first entries of a table in ascending order.
-fn find_entry(offsets: &[u64], entries: usize, target: UnitOffset) -> EntryFound
+fn find_entry(offsets: &[u64], entries: usize, target: UnitOffset) -> Option<EntryIndex>
     requires { Searched offsets.now entries }
     ensures { result ≡ as_entry (entry_from 0 (take entries offsets.now) target.0) }
 {
@@ -47,7 +40,7 @@ fn find_entry(offsets: &[u64], entries: usize, target: UnitOffset) -> EntryFound
         let middle = low + (high - low) / 2;
         let offset = offsets[middle];
         if offset == target.0 {
-            return EntryFound::Entry(EntryIndex(middle as u64));
+            return Some(EntryIndex(middle as u64));
         }
         if offset < target.0 {
             low = middle + 1;
@@ -55,7 +48,7 @@ fn find_entry(offsets: &[u64], entries: usize, target: UnitOffset) -> EntryFound
             high = middle;
         }
     }
-    EntryFound::Nothing
+    None
 }
 
 // ---- hints of where an entry stands: entry numbers by shifted offset. Each is tested before it is used.
@@ -140,14 +133,14 @@ fn find_hinted(
     target: UnitOffset,
     hints: &[u32],
     shift: u32,
-) -> EntryFound
+) -> Option<EntryIndex>
     requires { Searched offsets.now entries }
     ensures { result ≡ as_entry (entry_from 0 (take entries offsets.now) target.0) }
 {
     let i = guess(offsets, target, hints, shift);
     if i < entries {
         if offsets[i] == target.0 {
-            return EntryFound::Entry(EntryIndex(i as u64));
+            return Some(EntryIndex(i as u64));
         }
     }
     find_entry(offsets, entries, target)
@@ -175,12 +168,12 @@ fn resolve_entry(
     let mut j = from;
     while j < to {
         match find_hinted(offsets, entries, UnitOffset(targets[j]), hints, shift) {
-            EntryFound::Entry(named) => {
+            Some(named) => {
                 pairs[2 * place] = holder.0;
                 pairs[2 * place + 1] = named.0;
                 place += 1;
             }
-            EntryFound::Nothing => {}
+            None => {}
         }
         j += 1;
     }
@@ -296,7 +289,7 @@ fn mark_rows(
     targets: &[u64],
     pairs: &mut [u64],
     work: &mut [u32],
-) -> UnitMarks
+) -> Result<UnitMarks, u8>
     requires { Markable offsets.now parents.now roots.now reference_ends.now entries marks.old
         targets.now pairs.old }
     ensures answer { (rows : List EntryRow)
@@ -327,10 +320,8 @@ fn mark_rows(
         reference_ends,
     );
     clear_indexes(work);
-    match marked {
-        Marked::Kept(kept) => UnitMarks::Marked { entries, kept },
-        Marked::Refused(n) => UnitMarks::Refused(n),
-    }
+    let kept = marked?;
+    Ok(UnitMarks { entries, kept })
 }
 
 // Marks the entries of the first unit of a section: 1 dead, 2 retained, 3 live. The columns are those of `analyse`,
@@ -401,14 +392,12 @@ pub fn mark_unit<'a>(
     let header = unit.header;
     let analysis = unit.analysis;
     match analysis {
-        Analysis::Refused(n) => UnitMarking {
+        Err(n) => UnitMarking {
             header,
-            marks: UnitMarks::Refused(n),
+            marks: Err(n),
         },
-        Analysis::Entries {
-            entries,
-            references: _,
-        } => {
+        Ok(counts) => {
+            let entries = counts.entries;
             let answer = mark_rows(
                 offsets,
                 parents,

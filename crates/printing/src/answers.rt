@@ -1,13 +1,13 @@
 // What collect makes of a bundle's unit: the printout of document 01, or the whole answer on one line.
 use crate::marks::{letter, mark};
 use crate::text::{number, text};
-use bundle::{BundleRead, section_bytes};
+use bundle::{Bundle, section_bytes};
 use marking::setting::Setting;
 use marking::units::UnitMarks;
 use readers::offsets::UnitOffset;
 use rewriting::collect::{Collected, Counts};
-use rewriting::lists::ListCount;
-use rewriting::map::Mapped;
+
+use rewriting::map::UnitOffset;
 use std::io;
 use std::io::Write;
 
@@ -31,10 +31,10 @@ fn new_offset(
         return Ok(());
     }
     match rewriting::map::new_offset(map, c.places, UnitOffset(old)) {
-        Mapped::To(n) => {
+        Some(n) => {
             number(to, b" ", n.0)?;
         }
-        Mapped::Nothing => {
+        None => {
             text(to, b" -")?;
         }
     }
@@ -93,13 +93,13 @@ fn marked<'a>(
         &mut offsets,
         &mut marks,
     ) {
-        UnitMarks::Marked {
+        Ok(UnitMarks {
             entries: _,
             kept: _,
-        } => {
+        }) => {
             entries(to, &offsets, &marks, map, c, rewritten)?;
         }
-        UnitMarks::Refused(n) => {
+        Err(n) => {
             refused(to, n)?;
         }
     }
@@ -109,13 +109,13 @@ fn marked<'a>(
 // ---- the whole answer on one line
 
 // Numbers in brackets, or that the list is absent.
-fn list(to: &mut impl Write, name: &[u8], bytes: &[u8], count: ListCount) -> io::Result<()> {
+fn list(to: &mut impl Write, name: &[u8], bytes: &[u8], count: Option<usize>) -> io::Result<()> {
     text(to, name)?;
     match count {
-        ListCount::Absent => {
+        None => {
             text(to, b"absent")?;
         }
-        ListCount::Present(n) => {
+        Some(n) => {
             numbers(to, bytes, n)?;
         }
     }
@@ -248,7 +248,7 @@ fn unit<'a>(
         &mut string_list,
         &mut out,
     ) {
-        Collected::Untouched(c) => {
+        Ok(Collected::Untouched(c)) => {
             if whole {
                 line(
                     to,
@@ -278,7 +278,7 @@ fn unit<'a>(
                 )?;
             }
         }
-        Collected::Rewritten(c) => {
+        Ok(Collected::Rewritten(c)) => {
             if whole {
                 line(
                     to,
@@ -308,7 +308,7 @@ fn unit<'a>(
                 )?;
             }
         }
-        Collected::Refused(n) => {
+        Err(n) => {
             refused(to, n)?;
         }
     }
@@ -323,7 +323,7 @@ fn of_bundle(
     treatments: &[u8],
     whole: bool,
 ) -> io::Result<()> {
-    let BundleRead::Read(b) = bundle::read_bundle(s) else {
+    let Some(b) = bundle::read_bundle(s) else {
         text(to, b"bundle\n")?;
         return Ok(());
     };

@@ -6,11 +6,11 @@ ghost use Rattle.std.specs.Prelude.{◌≤◌};
 use crate::answers::{hex, refused};
 use crate::lengths::size;
 use crate::text::{number, text};
-use bundle::{Bundle, BundleRead, section_bytes};
+use bundle::{Bundle, section_bytes};
 use marking::setting::Setting;
 use readers::cursor::{Cursor, left};
 use rewriting::collect::{Collected, Counts};
-use rewriting::lists::ListCount;
+
 use std::io;
 use std::io::Write;
 
@@ -105,7 +105,7 @@ fn collect_bundle(
     b: Bundle,
     tags: &[u8],
     treatments: &[u8],
-) -> Collected {
+) -> Result<Collected, u8> {
     let mut work = [0xa5a5_a5a5u32; 4096];
     rewriting::collect::collect(
         section_bytes(s, b.unit),
@@ -155,7 +155,7 @@ fn lend(
     b: Bundle,
     tags: &[u8],
     treatments: &[u8],
-) -> Collected {
+) -> Result<Collected, u8> {
     let of_index = lent(settings, INDEX, index.len());
     let of_offsets = lent(settings, OFFSETS, offsets.len());
     let of_parents = lent(settings, PARENTS, parents.len());
@@ -266,13 +266,13 @@ fn outputs_end(
 
 // ---- lines
 
-fn count(to: &mut impl Write, name: &[u8], c: ListCount) -> io::Result<()> {
+fn count(to: &mut impl Write, name: &[u8], c: Option<usize>) -> io::Result<()> {
     match c {
-        ListCount::Absent => {
+        None => {
             text(to, name)?;
             text(to, b"absent")?;
         }
-        ListCount::Present(n) => {
+        Some(n) => {
             number(to, name, n as u64)?;
         }
     }
@@ -293,15 +293,15 @@ fn counts(to: &mut impl Write, answer: &[u8], c: Counts) -> io::Result<()> {
     text(to, b"\n")
 }
 
-fn answered(to: &mut impl Write, answer: Collected) -> io::Result<()> {
+fn answered(to: &mut impl Write, answer: Result<Collected, u8>) -> io::Result<()> {
     match answer {
-        Collected::Untouched(c) => {
+        Ok(Collected::Untouched(c)) => {
             counts(to, b"untouched entries ", c)?;
         }
-        Collected::Rewritten(c) => {
+        Ok(Collected::Rewritten(c)) => {
             counts(to, b"rewritten entries ", c)?;
         }
-        Collected::Refused(n) => {
+        Err(n) => {
             refused(to, n)?;
         }
     }
@@ -430,10 +430,10 @@ fn case(
     s: &[u8],
 ) -> io::Result<()> {
     match bundle::read_bundle(s) {
-        BundleRead::Wrong => {
+        None => {
             text(to, b"bundle\n")?;
         }
-        BundleRead::Read(b) => {
+        Some(b) => {
             unit(to, settings, tags, treatments, s, b)?;
         }
     }

@@ -1,6 +1,6 @@
 // What the readers read of a bundle's unit: header, entries with their attributes, references of expressions, lists.
 use crate::text::{number, text};
-use bundle::BundleRead;
+use bundle::Bundle;
 use readers::abbreviations::{AttributeSpec, Checked, SpecStep};
 use readers::attributes::Attribute;
 use readers::codes::{
@@ -589,7 +589,7 @@ fn unit_lines(
 // Prints what a bundle holds, by the byte order of its unit; `bundle` where it is none, `refused` and a number where its
 // unit can't be read.
 pub fn dump(to: &mut impl Write, s: &[u8], big_endian: bool) -> io::Result<()> {
-    let BundleRead::Read(b) = bundle::read_bundle(s) else {
+    let Some(b) = bundle::read_bundle(s) else {
         text(to, b"bundle\n")?;
         return Ok(());
     };

@@ -1,7 +1,7 @@
 // The marks of a bundle's unit: how many entries it has and how many are kept, then a line for each entry, its offset
 // and its mark.
 use crate::text::{number, text};
-use bundle::{BundleRead, section_bytes};
+use bundle::{Bundle, section_bytes};
 use marking::setting::Setting;
 use marking::units::UnitMarks;
 use std::io;
@@ -40,7 +40,7 @@ pub fn mark<'a>(
     setting: Setting,
     offsets: &mut [u64],
     marks: &mut [u8],
-) -> UnitMarks {
+) -> Result<UnitMarks, u8> {
     let mut index = [0u64; 1024];
     let mut parents = [0u64; 2048];
     let mut roots = [0u8; 2048];
@@ -99,13 +99,13 @@ fn unit<'a>(
         &mut offsets,
         &mut marks,
     ) {
-        UnitMarks::Marked { entries, kept } => {
+        Ok(UnitMarks { entries, kept }) => {
             number(to, b"entries ", entries as u64)?;
             number(to, b" kept ", kept as u64)?;
             text(to, b"\n")?;
             lines(to, &offsets, &marks, entries)?;
         }
-        UnitMarks::Refused(n) => {
+        Err(n) => {
             number(to, b"refused ", n as u64)?;
             text(to, b"\n")?;
         }
@@ -121,7 +121,7 @@ pub fn list(
     tags: &[u8],
     treatments: &[u8],
 ) -> io::Result<()> {
-    let BundleRead::Read(b) = bundle::read_bundle(s) else {
+    let Some(b) = bundle::read_bundle(s) else {
         text(to, b"bundle\n")?;
         return Ok(());
     };

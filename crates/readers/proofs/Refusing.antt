@@ -34,3 +34,7 @@ read_some None k a r e f =
 read_some (Some b) k a r e f =
     let q : Ok b ≡ Ok a = sym e ∙ f in
     ap (told_or (Some b)) q
+
+-- a refusal that `?` passes on
+pub passed-on : {B E : Type 0} (s : Result B E) (x : E) → IsErrAnd s (λ y. y ≡ x) → s ≡ Err x
+passed-on s x h = let p = err_from_is_err_and s h in p.1 ∙ ap Err p.2

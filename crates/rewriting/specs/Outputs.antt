@@ -1,16 +1,14 @@
 -- What collect leaves in the lent slices, and its answer in numbers (document 01, "collect"; demand 1: "Output, map and
 -- index lists hold the answer, and zeros everywhere else, for every input").
-use Rattle.std.specs.Prelude.{ℕ, ◌/◌, List, length, None, Option, Some}
+use Rattle.std.specs.Prelude.{ℕ, ◌/◌, List, length, None, Option, Some, Err, Ok, Result}
 use Rattle.readers.specs.Choice.{zeros}
 use Rattle.marking.specs.Analysis.{Rooms}
 use Rattle.marking.specs.Columns.{pad_to, unit_rooms}
 use Rattle.rewriting.specs.Written.{number_size, place_size, list_bytes, map_bytes}
 use Rattle.rewriting.specs.Rewriting.{Lists, Room, Collected, untouched, rewritten, refused}
-use Rattle.rewriting.specs.declared.lists.ListCount.{ListCount}
-use Rattle.rewriting.specs.declared.lists.ListCount.TheVariants.{Present, Absent}
 use Rattle.rewriting.specs.declared.collect.Counts.{Counts}
-use Rattle.rewriting.specs.declared.collect.Collected.{Collected as Answer}
-use Rattle.rewriting.specs.declared.collect.Collected.TheVariants.{Untouched, Rewritten, Refused}
+use Rattle.rewriting.specs.declared.collect.Collected.{Collected as Accepted}
+use Rattle.rewriting.specs.declared.collect.Collected.TheVariants.{Untouched, Rewritten}
 
 -- what there is room for, by the lengths of the slices
 abbrev pub room_by : Rooms → ℕ → ℕ → ℕ → ℕ → ℕ → Room
@@ -29,9 +27,9 @@ abbrev pub room_of : ℕ → ℕ → ℕ → ℕ → ℕ → ℕ → ℕ → ℕ
 room_of marks pairs offsets parents roots ends targets map ranges locations strings out =
     room_by (unit_rooms marks pairs offsets parents roots ends targets) map ranges locations strings out
 
-unfoldable pub list_count : Option (List ℕ) → ListCount
-list_count None = Absent
-list_count (Some xs) = Present (length xs)
+unfoldable pub list_count : Option (List ℕ) → Option ℕ
+list_count None = None
+list_count (Some xs) = Some (length xs)
 
 abbrev pub counts_of : ℕ → ℕ → ℕ → ℕ → Lists → Counts
 counts_of entries kept places bytes l =
@@ -45,10 +43,14 @@ counts_of entries kept places bytes l =
       strings = list_count l.strings;
     }
 
+-- as the code answers it: accepted, or the number of a refusal
+abbrev pub Answer : Type 0
+Answer = Result Accepted ℕ
+
 unfoldable pub answer_for : Collected → Answer
-answer_for (untouched n l) = Untouched (counts_of n n 0 0 l)
-answer_for (rewritten w) = Rewritten (counts_of w.entries w.kept (length w.map) (length w.output) w.lists)
-answer_for (refused n) = Refused n
+answer_for (untouched n l) = Ok (Ok (Untouched (counts_of n n 0 0 l)))
+answer_for (rewritten w) = Ok (Ok (Rewritten (counts_of w.entries w.kept (length w.map) (length w.output) w.lists)))
+answer_for (refused n) = Err n
 
 unfoldable pub map_for : ℕ → Collected → List ℕ
 map_for n (untouched k l) = zeros n

@@ -13,8 +13,6 @@ use Rattle.marking.specs.Marks.{kept_count}
 use Rattle.readers.specs.Stream.{Item, entry, terminator, items_from}
 use Rattle.marking.specs.Analysis.{Sections, Rooms, EntryRow, Analysed, analysed, refused as not_analysed, values_of_entry, header_by, analysis_of}
 use Rattle.marking.specs.Resolution.{marks_in}
-use Rattle.rewriting.specs.declared.map.Mapped.TheVariants.{Nothing}
-use Rattle.rewriting.specs.declared.collect.Listed.TheVariants.{Short}
 use Rattle.rewriting.specs.Refusals.{refusal_of_mapped, refusal_of_listed}
 use Rattle.rewriting.specs.Places.{NestedItem, kept_from, offset_of, Place, places_from, size_from, new_of, sibling_of}
 use Rattle.rewriting.specs.Emission.{header_bytes}
@@ -122,7 +120,7 @@ module _ (lists : Lists) (map : List Place) (depth : ℕ) where
   -- 8 where a target has no place, 9 where a value does not fit, 0 where nothing is refused
   unfoldable pub piece_refusal : Piece → ℕ
   piece_refusal (verbatim l) = 0
-  piece_refusal (patchable e r v) = pick (has_place r v) (pick (fits e (new_value r v)) 0 9) (refusal_of_mapped Nothing)
+  piece_refusal (patchable e r v) = pick (has_place r v) (pick (fits e (new_value r v)) 0 9) (refusal_of_mapped None)
 
   unfoldable pub pieces_refusal : List Piece → ℕ
   pieces_refusal [] = 0
@@ -207,7 +205,7 @@ module _ (x : Sections) (room : Room) where
       pick (lists_fit room (lists_of x u type_units items))
       (pick (eqb (kept_count marks) (length marks)) (untouched (length marks) (lists_of x u type_units items))
       (rewrite_of u (length marks) (kept_count marks) (lists_of x u type_units items) items))
-      (refused (refusal_of_listed Short))
+      (refused (refusal_of_listed None))
 
   unfoldable pub rows_collected : Bool → Unit → List EntryRow → Collected
   rows_collected type_units u [] = untouched 0 no_lists

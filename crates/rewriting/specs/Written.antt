@@ -3,13 +3,10 @@ use Rattle.std.specs.Prelude.{ℕ, zero, suc, ◌+◌, ◌*◌, ◌-◌, ◌^◌
 use Rattle.readers.specs.Choice.{pick, ◌and◌, zeros, put}
 use Rattle.readers.specs.Numbers.{padded, fixed_bytes, fixed_value}
 use Rattle.readers.specs.Cursors.{fixed_at}
-use Rattle.std.specs.Prelude.{None, Option, Some}
+use Rattle.std.specs.Prelude.{None, Option, Some, Err, Ok, Result}
 use Rattle.readers.specs.declared.cursor.Cursor.{Cursor}
 use Rattle.rewriting.specs.Places.{Place}
-use Rattle.rewriting.specs.declared.numbers.Padded.{Padded}
-use Rattle.rewriting.specs.declared.numbers.Padded.TheVariants.{Written, Refused}
-use Rattle.rewriting.specs.declared.map.Mapped.{Mapped}
-use Rattle.rewriting.specs.declared.map.Mapped.TheVariants.{To, Nothing}
+use Rattle.readers.specs.declared.offsets.UnitOffset.{UnitOffset}
 
 -- ---- numbers
 
@@ -22,8 +19,8 @@ groups_fit value width n = ltb 0 width and leb width 10 and leb width n and ltb 
 unfoldable pub over : List ℕ → List ℕ → List ℕ
 over bytes out = pick (leb (length bytes) (length out)) (bytes ++ drop (length bytes) out) out
 
-unfoldable pub padded_answer : ℕ → ℕ → ℕ → Padded
-padded_answer value width n = pick (groups_fit value width n) Written (Refused 15)
+unfoldable pub padded_answer : ℕ → ℕ → ℕ → Result (Unit {0}) ℕ
+padded_answer value width n = pick (groups_fit value width n) (Ok tt) (Err 15)
 
 unfoldable pub padded_out : ℕ → ℕ → ℕ → List ℕ
 padded_out value width n = pick (groups_fit value width n) (padded (width - 1) value ++ zeros (n - width)) (zeros n)
@@ -103,10 +100,10 @@ halved (suc n) at v low high =
     low
 
 -- what is found at place i of the first places of a map
-unfoldable pub found_at : List ℕ → ℕ → ℕ → ℕ → Mapped
+unfoldable pub found_at : List ℕ → ℕ → ℕ → ℕ → Option UnitOffset
 found_at map places v i =
-    pick (ltb i places) (pick (eqb (old_at map i) v) (To (record { 0 = new_at map i })) Nothing) Nothing
+    pick (ltb i places) (pick (eqb (old_at map i) v) (Some (record { 0 = new_at map i })) None) None
 
 -- the new offset of an old one, by the first places of any map
-unfoldable pub looked_up : List ℕ → ℕ → ℕ → Mapped
+unfoldable pub looked_up : List ℕ → ℕ → ℕ → Option UnitOffset
 looked_up map places v = found_at map places v (halved places (old_at map) v 0 places)

@@ -12,11 +12,11 @@ ghost use Rattle.rewriting.specs.Outputs.{room_by, room_of, answer_for, map_for,
 ghost use Rattle.rewriting.specs.Inner.Leaving.{Answers, Tabled, Blank, marked_of, ListsAnswer, Writable, WriteAnswer};
 ghost use Rattle.rewriting.specs.Inner.Leaving.{left_by, task_of, MarkedTables};
 
-use crate::emit_entry::Emitted;
+
 use crate::emit_unit::{emit_dies, emit_header};
 use crate::indices::{is_short, settle, sorted_lists};
 use crate::kept_items::{Reading, fill_ends};
-use crate::lists::ListCount;
+
 use crate::map::PLACE_SIZE;
 use crate::offset_pass::place_items;
 use crate::work_column::fill_work;
@@ -36,16 +36,16 @@ pub struct Counts {
     pub kept: usize,
     pub places: usize,
     pub bytes: usize,
-    pub ranges: ListCount,
-    pub locations: ListCount,
-    pub strings: ListCount,
+    pub ranges: Option<usize>,
+    pub locations: Option<usize>,
+    pub strings: Option<usize>,
 }
 
+// An answer that is no refusal.
 #[derive(Clone, Copy)]
 pub enum Collected {
     Untouched(Counts),
     Rewritten(Counts),
-    Refused(u8),
 }
 
 // Makes map, lists and output zeros.
@@ -71,7 +71,7 @@ fn clear_outputs(
 
 // Makes map, lists and output zeros after a refusal.
 fn clear_refused(
-    answer: Collected,
+    answer: Result<Collected, u8>,
     map: &mut [u8],
     ranges: &mut [u8],
     locations: &mut [u8],
@@ -85,9 +85,9 @@ fn clear_refused(
         × (out.new ≡ left_by answer out.old) }
 {
     match answer {
-        Collected::Untouched(_) => {}
-        Collected::Rewritten(_) => {}
-        Collected::Refused(_) => {
+        Ok(Collected::Untouched(_)) => {}
+        Ok(Collected::Rewritten(_)) => {}
+        Err(_) => {
             clear_outputs(map, ranges, locations, strings, out);
         }
     }
@@ -122,15 +122,12 @@ fn clear_tables(
     clear_indexes(work);
 }
 
-// The counts of a unit's lists, or a list has no room.
+// The counts of a unit's lists, where each has room.
 #[derive(Clone, Copy)]
-pub enum Listed {
-    Made {
-        ranges: ListCount,
-        locations: ListCount,
-        strings: ListCount,
-    },
-    Short,
+pub struct Listed {
+    pub ranges: Option<usize>,
+    pub locations: Option<usize>,
+    pub strings: Option<usize>,
 }
 
 // The lists of a unit.
@@ -147,7 +144,7 @@ fn index_lists(
     range_list: &mut [u8],
     location_list: &mut [u8],
     string_list: &mut [u8],
-) -> Listed
+) -> Option<Listed>
     ensures { (x : Sections) (u : Unit')
         → PassInput x u r abbreviations.now index.now unit.now parents.now
         ends.now marks.now first.0
@@ -160,11 +157,11 @@ fn index_lists(
         result range_list.new location_list.new string_list.new }
 {
     if type_units {
-        return Listed::Made {
-            ranges: ListCount::Absent,
-            locations: ListCount::Absent,
-            strings: ListCount::Absent,
-        };
+        return Some(Listed {
+            ranges: None,
+            locations: None,
+            strings: None,
+        });
     }
     let g = sorted_lists(
         unit,
@@ -190,7 +187,7 @@ fn index_lists(
         range_list,
     );
     if is_short(ranges, range_list) {
-        return Listed::Short;
+        return None;
     }
     let locations = settle(
         unit,
@@ -203,7 +200,7 @@ fn index_lists(
         location_list,
     );
     if is_short(locations, location_list) {
-        return Listed::Short;
+        return None;
     }
     let strings = settle(
         unit,
@@ -216,13 +213,13 @@ fn index_lists(
         string_list,
     );
     if is_short(strings, string_list) {
-        return Listed::Short;
+        return None;
     }
-    Listed::Made {
+    Some(Listed {
         ranges,
         locations,
         strings,
-    }
+    })
 }
 
 // Map and output of a unit where something is dead. The work column, whatever it holds, is filled with the bounds of the
@@ -239,15 +236,15 @@ fn write_unit(
     entries: usize,
     kept: usize,
     range_list: &[u8],
-    ranges: ListCount,
+    ranges: Option<usize>,
     location_list: &[u8],
-    locations: ListCount,
+    locations: Option<usize>,
     string_list: &[u8],
-    strings: ListCount,
+    strings: Option<usize>,
     work: &mut [u32],
     map: &mut [u8],
     out: &mut [u8],
-) -> Collected
+) -> Result<Collected, u8>
     ensures { (x : Sections) (u : Unit') (lists : Lists) (room : Room)
         → PassInput x u r abbreviations.now index.now unit.now parents.now
         ends.now marks.now first.0
@@ -269,10 +266,10 @@ fn write_unit(
         map,
     );
     if size.places > map.len() / PLACE_SIZE {
-        return Collected::Refused(13);
+        return Err(13);
     }
     if size.bytes > out.len() {
-        return Collected::Refused(14);
+        return Err(14);
     }
     fill_work(
         map,
@@ -306,8 +303,8 @@ fn write_unit(
         strings,
         &mut out[at..],
     ) {
-        Emitted::To(_) => {
-            Collected::Rewritten(Counts {
+        Ok(_) => {
+            Ok(Collected::Rewritten(Counts {
                 entries,
                 kept,
                 places: size.places,
@@ -315,9 +312,9 @@ fn write_unit(
                 ranges,
                 locations,
                 strings,
-            })
+            }))
         }
-        Emitted::Refused(n) => Collected::Refused(n),
+        Err(n) => Err(n),
     }
 }
 
@@ -339,7 +336,7 @@ fn rewrite_unit(
     location_list: &mut [u8],
     string_list: &mut [u8],
     out: &mut [u8],
-) -> Collected
+) -> Result<Collected, u8>
     ensures { (x : Sections) (tables : Rooms) (ds : List Placed) (rows : List EntryRow)
         → Tabled x tables section.now h ds rows abbreviations.now index.now
         parents.now ends.old marks.now entries kept
@@ -374,14 +371,14 @@ fn rewrite_unit(
         location_list,
         string_list,
     ) {
-        Listed::Short => Collected::Refused(12),
-        Listed::Made {
+        None => Err(12),
+        Some(Listed {
             ranges,
             locations,
             strings,
-        } => {
+        }) => {
             if kept == entries {
-                return Collected::Untouched(Counts {
+                return Ok(Collected::Untouched(Counts {
                     entries,
                     kept,
                     places: 0,
@@ -389,7 +386,7 @@ fn rewrite_unit(
                     ranges,
                     locations,
                     strings,
-                });
+                }));
             }
             write_unit(
                 unit,
@@ -417,24 +414,24 @@ fn rewrite_unit(
 }
 
 // Untouched, without entries.
-fn nothing() -> Collected
+fn nothing() -> Result<Collected, u8>
     ensures { result ≡ answer_for (untouched 0 no_lists) }
 {
-    Collected::Untouched(Counts {
+    Ok(Collected::Untouched(Counts {
         entries: 0,
         kept: 0,
         places: 0,
         bytes: 0,
-        ranges: ListCount::Absent,
-        locations: ListCount::Absent,
-        strings: ListCount::Absent,
-    })
+        ranges: None,
+        locations: None,
+        strings: None,
+    }))
 }
 
 // What is to be done once a unit's entries are marked: nothing more, or the unit of a header is rewritten.
 #[derive(Clone, Copy)]
 pub enum Task {
-    Done(Collected),
+    Done(Result<Collected, u8>),
     Rewrite {
         header: UnitHeader,
         entries: usize,
@@ -448,8 +445,8 @@ fn task_of(unit: UnitMarking) -> Task
     let header = unit.header;
     let marks = unit.marks;
     match marks {
-        UnitMarks::Refused(n) => Task::Done(Collected::Refused(n)),
-        UnitMarks::Marked { entries, kept } => {
+        Err(n) => Task::Done(Err(n)),
+        Ok(UnitMarks { entries, kept }) => {
             if entries == 0 {
                 return Task::Done(nothing());
             }
@@ -460,7 +457,7 @@ fn task_of(unit: UnitMarking) -> Task
                     kept,
                 },
                 Ok(None) => Task::Done(nothing()),
-                Err(n) => Task::Done(Collected::Refused(n)),
+                Err(n) => Task::Done(Err(n)),
             }
         }
     }
@@ -482,7 +479,7 @@ fn collect_marked(
     location_list: &mut [u8],
     string_list: &mut [u8],
     out: &mut [u8],
-) -> Collected
+) -> Result<Collected, u8>
     ensures { (x : Sections) (tables : Rooms)
         → MarkedTables x tables section.now task abbreviations.now index.now
         parents.now ends.old marks.now
@@ -548,7 +545,7 @@ fn collect_unit<'a>(
     debug_ranges: &'a [u8],
     tags: &[u8],
     treatments: &[u8],
-) -> Collected
+) -> Result<Collected, u8>
     ensures { let x = sections abbreviations.now locations.now ranges.now
         addresses.now debug_ranges.now (keep_in tags.now treatments.now)
         setting in
@@ -633,7 +630,7 @@ pub fn collect<'a>(
     location_list: &mut [u8],
     string_list: &mut [u8],
     out: &mut [u8],
-) -> Collected
+) -> Result<Collected, u8>
     ensures { let x = sections abbreviations.now locations.now ranges.now
         addresses.now debug_ranges.now (keep_in tags.now treatments.now)
         setting in

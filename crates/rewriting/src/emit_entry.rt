@@ -1,17 +1,15 @@
 // Writes a kept entry: each value at its own width, with new values for references, siblings and indices (gc.rs:
 // `emit_attribute`).
-ghost use Rattle.std.specs.Prelude.{◌≡◌, true, List, ℕ, ◌+◌, ◌-◌, ◌^◌, ◌≤◌, ◌<◌, length, drop};
-ghost use Rattle.std.proofs.Math.Option.{Option, some};
+ghost use Rattle.std.specs.Prelude.{◌≡◌, true, List, ℕ, ◌+◌, ◌-◌, ◌^◌, ◌≤◌, ◌<◌, length, drop, Option, Some, Ok};
 ghost use Rattle.readers.specs.Layout.{Read, Piece, read_in, write_all, patch_all, bytes_of, patch_pieces, number_bytes};
 ghost use Rattle.readers.specs.Expression.{expression_in};
 ghost use Rattle.readers.specs.EntryAttributes.{next_attribute};
 ghost use Rattle.readers.specs.Forms.{attribute_layout};
 ghost use Rattle.readers.specs.Entries.{attribute_at, entry_layout, step_at};
 ghost use Rattle.readers.specs.References.{encoded_by};
-ghost use Rattle.readers.specs.declared.abbreviations.DeclarationFound.{DeclarationFound};
+ghost use Rattle.readers.specs.declared.abbreviations.Declaration.{Declaration};
 ghost use Rattle.readers.specs.declared.entries.Entry.{Entry};
 ghost use Rattle.readers.specs.declared.entries.Step.TheVariants.{Entry as Entry'};
-ghost use Rattle.readers.specs.declared.attributes.AttributeRead.TheVariants.{Read as Attribute'};
 ghost use Rattle.rewriting.specs.Places.{Place};
 ghost use Rattle.rewriting.specs.Indices.{rank_or};
 ghost use Rattle.rewriting.specs.Written.{over};
@@ -21,10 +19,9 @@ ghost use Rattle.rewriting.specs.Rewriting.{Lists, new_value, reads_refusal, pie
 ghost use Rattle.rewriting.specs.Emission.{between, copied_count};
 ghost use Rattle.rewriting.specs.Inner.Plans.{Copies, Planned};
 ghost use Rattle.rewriting.specs.Inner.Emission.{Emits, Within, onward, Wide, number_refusal, offset_refusal, leb_form, Lent, ListsLent};
-ghost use Rattle.rewriting.specs.declared.emit_entry.Emitted.TheVariants.{To};
 
-use crate::lists::{ListCount, hinted_rank};
-use crate::map::{Mapped, hinted_offset};
+use crate::lists::hinted_rank;
+use crate::map::{UnitOffset, hinted_offset};
 use crate::numbers::{put_bytes, put_number};
 use crate::siblings::sibling_offset;
 use readers::abbreviations::SpecStep;
@@ -39,12 +36,7 @@ use readers::expressions::Reference;
 use readers::fields::Field;
 use readers::offsets::UnitOffset;
 
-// How many bytes were written, or the number of a refusal.
-#[derive(Clone, Copy)]
-pub enum Emitted {
-    To(usize),
-    Refused(u8),
-}
+// Each `emit_` function answers how many bytes it wrote, or the number of a refusal.
 
 // The bytes of a slice from one place to another, as far as it has them.
 pub(crate) fn bytes_between<'a>(s: &'a [u8], from: usize, to: usize) -> &'a [u8]
@@ -75,39 +67,39 @@ pub fn emit_bytes(bytes: &[u8], out: &mut [u8]) -> usize
 }
 
 // What is answered where so many bytes stand before: the count goes on, a refusal stays.
-fn after(done: usize, rest: Emitted) -> Emitted
-    requires { (n : ℕ) → rest ≡ To n → done + n < 2 ^ 64 }
+fn after(done: usize, rest: Result<usize, u8>) -> Result<usize, u8>
+    requires { (n : ℕ) → rest ≡ Ok n → done + n < 2 ^ 64 }
     ensures { result ≡ onward done rest }
 {
     match rest {
-        Emitted::To(n) => Emitted::To(done + n),
-        Emitted::Refused(n) => Emitted::Refused(n),
+        Ok(n) => Ok(done + n),
+        Err(n) => Err(n),
     }
 }
 
 // A number in so many bytes: 9 where it does not fit.
-fn emit_number(value: u64, width: usize, leb: bool, big_endian: bool, out: &mut [u8]) -> Emitted
+fn emit_number(value: u64, width: usize, leb: bool, big_endian: bool, out: &mut [u8]) -> Result<usize, u8>
     ensures within { Within out.old result out.new }
     ensures bytes { Wide leb width
         → let e = encoded_by leb width in
         Emits (number_refusal e value) (number_bytes big_endian e value) out.old result out.new }
 {
     if put_number(value, width, leb, big_endian, out) {
-        return Emitted::To(width);
+        return Ok(width);
     }
-    Emitted::Refused(9)
+    Err(9)
 }
 
 // The new offset in the old one's place: 8 where it has none (gc.rs: `write_ref_value`).
-fn emit_offset(new: Mapped, width: usize, leb: bool, big_endian: bool, out: &mut [u8]) -> Emitted
+fn emit_offset(new: Option<UnitOffset>, width: usize, leb: bool, big_endian: bool, out: &mut [u8]) -> Result<usize, u8>
     ensures within { Within out.old result out.new }
     ensures bytes { (o : Option ℕ) (v : ℕ) → new ≡ as_mapped o → Wide leb width
         → let e = encoded_by leb width in
         Emits (offset_refusal e v o) (number_bytes big_endian e (or_self v o)) out.old result out.new }
 {
     match new {
-        Mapped::To(value) => emit_number(value.0, width, leb, big_endian, out),
-        Mapped::Nothing => Emitted::Refused(8),
+        Some(value) => emit_number(value.0, width, leb, big_endian, out),
+        None => Err(8),
     }
 }
 
@@ -119,10 +111,10 @@ fn emit_expression(
     places: usize,
     out: &mut [u8],
     work: &[u32],
-) -> Emitted
+) -> Result<usize, u8>
     ensures within { Within out.old result out.new }
     ensures bytes { (lists : Lists) (ps : List Place) (depth : ℕ) (pieces : List Piece)
-        → MapHeld ps map.now → places ≡ length ps → expression_in e s.now ≡ some pieces
+        → MapHeld ps map.now → places ≡ length ps → expression_in e s.now ≡ Some pieces
         → Emits (pieces_refusal lists ps depth pieces)
         (bytes_of e.big_endian (patch_pieces (new_value lists ps depth) pieces))
         out.old result out.new }
@@ -133,7 +125,7 @@ fn emit_expression(
     loop {
         let Some(r) = from.next_reference(s, e) else {
             let n = emit_bytes(&s[copied..], &mut out[to..]);
-            return Emitted::To(to + n);
+            return Ok(to + n);
         };
         let place = r.place;
         let target = r.target;
@@ -147,11 +139,11 @@ fn emit_expression(
             e.big_endian,
             &mut out[to..],
         ) {
-            Emitted::To(n) => {
+            Ok(n) => {
                 to += n;
             }
-            Emitted::Refused(n) => {
-                return Emitted::Refused(n);
+            Err(n) => {
+                return Err(n);
             }
         }
         copied = place + r.width;
@@ -179,12 +171,12 @@ fn is_leb(form: u64) -> bool
 }
 
 // An index by its rank; as it is where its list is absent.
-fn new_index(list: &[u8], count: ListCount, value: u64, kind: usize, work: &[u32]) -> u64
+fn new_index(list: &[u8], count: Option<usize>, value: u64, kind: usize, work: &[u32]) -> u64
     ensures { (o : Option (List ℕ)) → Lent o list.now count → result ≡ rank_or o value }
 {
     match count {
-        ListCount::Present(n) => hinted_rank(list, n, work, kind, value) as u64,
-        ListCount::Absent => value,
+        Some(n) => hinted_rank(list, n, work, kind, value) as u64,
+        None => value,
     }
 }
 
@@ -205,22 +197,22 @@ fn emit_attribute(
     places: usize,
     bounds: &[u32],
     ranges: &[u8],
-    ranges_count: ListCount,
+    ranges_count: Option<usize>,
     locations: &[u8],
-    locations_count: ListCount,
+    locations_count: Option<usize>,
     strings: &[u8],
-    strings_count: ListCount,
+    strings_count: Option<usize>,
     out: &mut [u8],
-) -> Emitted
+) -> Result<usize, u8>
     ensures within { Within out.old result out.new }
     ensures bytes { (lists : Lists) (ps : List Place) (rs : List Read) (rest : List ℕ)
         → MapHeld ps map.now → places ≡ length ps → Bounds ps bounds.now
         → ListsLent lists ranges.now ranges_count locations.now locations_count
         strings.now strings_count
         → values.at ≤ length unit.now
-        → attribute_at e unit.now values.at a.name a.declared ≡ Attribute' a.value
+        → attribute_at e unit.now values.at a.name a.declared ≡ Some a.value
         → read_in e.big_endian (expression_in e) (attribute_layout e a.name a.declared)
-        (drop values.at unit.now) ≡ some (rs, rest)
+        (drop values.at unit.now) ≡ Some (rs, rest)
         → Emits (reads_refusal lists ps depth rs)
         (write_all e.big_endian (patch_all (new_value lists ps depth) rs))
         out.old result out.new }
@@ -307,7 +299,7 @@ fn emit_attribute(
         );
     }
     let n = emit_bytes(bytes_between(unit, field.start, field.end), &mut out[to..]);
-    Emitted::To(to + n)
+    Ok(to + n)
 }
 
 // What is to be done with the next attribute: a value that is copied, by the cursors past it and past its specification;
@@ -381,22 +373,22 @@ pub(crate) fn emit_entry(
     places: usize,
     bounds: &[u32],
     ranges: &[u8],
-    ranges_count: ListCount,
+    ranges_count: Option<usize>,
     locations: &[u8],
-    locations_count: ListCount,
+    locations_count: Option<usize>,
     strings: &[u8],
-    strings_count: ListCount,
+    strings_count: Option<usize>,
     out: &mut [u8],
-) -> Emitted
+) -> Result<usize, u8>
     ensures within { Within out.old result out.new }
-    ensures bytes { (lists : Lists) (ps : List Place) (look : ℕ → DeclarationFound) (x : Entry) (rs : List Read) (rest : List ℕ)
+    ensures bytes { (lists : Lists) (ps : List Place) (look : ℕ → Option Declaration) (x : Entry) (rs : List Read) (rest : List ℕ)
         → MapHeld ps map.now → places ≡ length ps → Bounds ps bounds.now
         → ListsLent lists ranges.now ranges_count locations.now locations_count
         strings.now strings_count
-        → step_at e abbreviations.now look unit.now start.0 ≡ Entry' x
+        → step_at e abbreviations.now look unit.now start.0 ≡ Some (Entry' x)
         → specs ≡ x.declaration.attributes → values ≡ x.values
         → read_in e.big_endian (expression_in e) (entry_layout e abbreviations.now look)
-        (drop start.0 unit.now) ≡ some (rs, rest)
+        (drop start.0 unit.now) ≡ Some (rs, rest)
         → Emits (reads_refusal lists ps depth rs)
         (write_all e.big_endian (patch_all (new_value lists ps depth) rs))
         out.old result out.new }
@@ -432,18 +424,18 @@ pub(crate) fn emit_entry(
                     strings_count,
                     &mut out[to..],
                 ) {
-                    Emitted::To(n) => {
+                    Ok(n) => {
                         to += n;
                     }
-                    Emitted::Refused(n) => {
-                        return Emitted::Refused(n);
+                    Err(n) => {
+                        return Err(n);
                     }
                 }
                 from = past;
                 p = next;
             }
             Plan::Over => {
-                return Emitted::To(to);
+                return Ok(to);
             }
         }
     }

@@ -10,9 +10,9 @@ ghost use Rattle.rewriting.specs.Inner.IndexLists.{PassInput};
 ghost use Rattle.rewriting.specs.Emission.{header_count, header_over};
 ghost use Rattle.rewriting.specs.Inner.Emission.{Emits, Within, ListsLent};
 
-use crate::emit_entry::{Emitted, bytes_between, emit_bytes, emit_entry};
-use crate::kept_items::{KeptStep, PassPosition, Reading, next_kept};
-use crate::lists::ListCount;
+use crate::emit_entry::{bytes_between, emit_bytes, emit_entry};
+use crate::kept_items::{KeptItem, PassPosition, Reading, next_kept};
+
 use crate::numbers::{bytes_fit, put_bytes, put_fixed};
 use readers::cursor::{Cursor, Encoding};
 use readers::entries::Nesting;
@@ -33,13 +33,13 @@ pub(crate) fn emit_dies(
     places: usize,
     bounds: &[u32],
     ranges: &[u8],
-    ranges_count: ListCount,
+    ranges_count: Option<usize>,
     locations: &[u8],
-    locations_count: ListCount,
+    locations_count: Option<usize>,
     strings: &[u8],
-    strings_count: ListCount,
+    strings_count: Option<usize>,
     out: &mut [u8],
-) -> Emitted
+) -> Result<usize, u8>
     ensures within { Within out.old result out.new }
     ensures bytes { (x : Sections) (u : Unit') (lists : Lists) (ps : List Place)
         → PassInput x u r abbreviations.now index.now unit.now parents.now
@@ -60,9 +60,9 @@ pub(crate) fn emit_dies(
     };
     let mut to: usize = 0;
     loop {
-        let KeptStep::Item(x) = next_kept(unit, abbreviations, r, index, parents, ends, marks, s)
+        let Some(x) = next_kept(unit, abbreviations, r, index, parents, ends, marks, s)
         else {
-            return Emitted::To(to);
+            return Ok(to);
         };
         let next = x.next;
         let start = x.start;
@@ -87,12 +87,12 @@ pub(crate) fn emit_dies(
                 strings_count,
                 &mut out[to..],
             ) {
-                Emitted::To(n) => {
+                Ok(n) => {
                     to += n;
                     s = next;
                 }
-                Emitted::Refused(n) => {
-                    return Emitted::Refused(n);
+                Err(n) => {
+                    return Err(n);
                 }
             }
         } else {

@@ -1,6 +1,5 @@
 // The index lists of a unit: the indices of its kept entries, ascending without repeats, or absent.
-ghost use Rattle.std.specs.Prelude.{◌≡◌, ℕ, ◌/◌, List, length};
-ghost use Rattle.std.proofs.Math.Option.{some};
+ghost use Rattle.std.specs.Prelude.{◌≡◌, ℕ, ◌/◌, List, length, Some};
 ghost use Rattle.readers.specs.Abbreviations.{Placed, abbreviations_of};
 ghost use Rattle.readers.specs.EntryAttributes.{specs_from, entry_values};
 ghost use Rattle.marking.specs.Analysis.{Sections};
@@ -13,8 +12,8 @@ ghost use Rattle.rewriting.specs.Inner.IndexLists.{kind_index, value_indices, Re
 ghost use Rattle.rewriting.specs.Inner.IndexLists.{Settles};
 
 use crate::gathering::{add, finish};
-use crate::kept_items::{KeptStep, PassPosition, Reading, next_kept};
-use crate::lists::ListCount;
+use crate::kept_items::{KeptItem, PassPosition, Reading, next_kept};
+
 use readers::abbreviations::{DeclarationStep, SpecStep};
 use readers::attributes::list_of;
 use readers::codes::DW_FORM_sec_offset;
@@ -223,7 +222,7 @@ fn gather(
         strings: 0,
     };
     loop {
-        let KeptStep::Item(x) = next_kept(unit, abbreviations, r, index, parents, ends, marks, s)
+        let Some(x) = next_kept(unit, abbreviations, r, index, parents, ends, marks, s)
         else {
             return g;
         };
@@ -314,7 +313,7 @@ fn specs_declare(abbreviations: &[u8], specs: Cursor, name: u64) -> bool
 // Whether any declaration of a unit does, used or not.
 fn table_declares(abbreviations: &[u8], from: u64, name: u64) -> bool
     ensures { let s = abbreviations.now in
-        ((ds : List Placed) → abbreviations_of s from ≡ some ds → result ≡ table_declares s name ds) }
+        ((ds : List Placed) → abbreviations_of s from ≡ Some ds → result ≡ table_declares s name ds) }
 {
     let mut at = Cursor { at: from as usize };
     loop {
@@ -370,7 +369,7 @@ pub(crate) fn settle(
     name: u64,
     count: usize,
     list: &mut [u8],
-) -> ListCount
+) -> Option<usize>
     ensures { Settles r abbreviations.now index.now unit.now first.0
         name count list.old result list.new }
 {
@@ -378,17 +377,17 @@ pub(crate) fn settle(
         if count > 0 {
             clear_bytes(list);
         }
-        return ListCount::Absent;
+        return None;
     }
-    ListCount::Present(count)
+    Some(count)
 }
 
 // Whether a list has no room for its numbers.
-pub fn is_short(count: ListCount, list: &[u8]) -> bool
+pub fn is_short(count: Option<usize>, list: &[u8]) -> bool
     ensures { result ≡ is_short count (length list.now / 8) }
 {
     match count {
-        ListCount::Present(n) => n > list.len() / 8,
-        ListCount::Absent => false,
+        Some(n) => n > list.len() / 8,
+        None => false,
     }
 }

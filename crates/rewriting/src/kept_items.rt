@@ -39,12 +39,6 @@ pub struct KeptItem {
     pub next: PassPosition,
 }
 
-#[derive(Clone, Copy)]
-pub enum KeptStep {
-    Item(KeptItem),
-    End,
-}
-
 // Whether the entry with an index is kept.
 fn is_kept(marks: &[u8], i: EntryIndex) -> bool
     ensures { result ≡ is_kept marks.now i.0 }
@@ -147,7 +141,7 @@ pub(crate) fn next_kept(
     ends: &[u64],
     marks: &[u8],
     s: PassPosition,
-) -> KeptStep
+) -> Option<KeptItem>
     ensures { let items = items_by r abbreviations.now index.now unit.now in
         Answers items parents.now ends.now marks.now unit.now s result }
 {
@@ -156,11 +150,9 @@ pub(crate) fn next_kept(
     let mut nesting = s.nesting;
     loop {
         if at.at >= unit.len() {
-            return KeptStep::End;
+            return None;
         }
-        let Some((code, values)) = at.uleb(unit) else {
-            return KeptStep::End;
-        };
+        let (code, values) = at.uleb(unit)?;
         let start = UnitOffset(at.at as u64);
         let depth = nesting.depth;
         if code == 0 {
@@ -168,7 +160,7 @@ pub(crate) fn next_kept(
             nesting = nesting.after_terminator(parents);
             at = values;
             if kept {
-                return KeptStep::Item(KeptItem {
+                return Some(KeptItem {
                     start,
                     end: at,
                     depth,
@@ -181,31 +173,29 @@ pub(crate) fn next_kept(
         } else {
             let k = place(count);
             if k >= ends.len() {
-                return KeptStep::End;
+                return None;
             }
             let n = ends[k];
             let end = (n / 2) as usize;
             if end < values.at {
-                return KeptStep::End;
+                return None;
             }
             if end > unit.len() {
-                return KeptStep::End;
+                return None;
             }
             let kept = is_kept(marks, count);
             nesting = nesting.after_entry(count, n % 2 == 1);
             count = EntryIndex(count.0 + 1);
             at = Cursor { at: end };
             if kept {
-                let Some(d) = find_declaration(
+                let d = find_declaration(
                     abbreviations,
                     r.from,
                     index,
                     code,
-                ) else {
-                    return KeptStep::End;
-                };
+                )?;
                 let specs = d.attributes;
-                return KeptStep::Item(KeptItem {
+                return Some(KeptItem {
                     start,
                     end: at,
                     depth,

@@ -16,12 +16,6 @@ pub const NUMBER_SIZE: usize = 8;
 // The bytes of a place: three numbers.
 pub const PLACE_SIZE: usize = 24;
 
-#[derive(Clone, Copy)]
-pub enum Mapped {
-    To(UnitOffset),
-    Nothing,
-}
-
 // How many places a map has room for.
 pub fn most_places(map: &[u8]) -> usize
     ensures { result ≡ length map.now / place_size }
@@ -77,14 +71,14 @@ pub fn before(map: &[u8], places: usize, old: UnitOffset) -> usize
 }
 
 // The new offset of an old one.
-pub fn new_offset(map: &[u8], places: usize, old: UnitOffset) -> Mapped
+pub fn new_offset(map: &[u8], places: usize, old: UnitOffset) -> Option<UnitOffset>
     ensures { result ≡ looked_up map.now places old.0 }
 {
     let i = before(map, places, old);
     if i < places && has_old(map, i, old) {
-        return Mapped::To(new_at(map, i));
+        return Some(new_at(map, i));
     }
-    Mapped::Nothing
+    None
 }
 
 // ---- by hints
@@ -98,12 +92,12 @@ pub(crate) fn hinted_place(map: &[u8], places: usize, work: &[u32], old: UnitOff
 }
 
 // The new offset of an old one, by hints.
-pub(crate) fn hinted_offset(map: &[u8], places: usize, work: &[u32], old: UnitOffset) -> Mapped
+pub(crate) fn hinted_offset(map: &[u8], places: usize, work: &[u32], old: UnitOffset) -> Option<UnitOffset>
     ensures { (ps : List Place) → MapHeld ps map.now → places ≡ length ps → result ≡ as_mapped (new_of ps old.0) }
 {
     let i = hinted_place(map, places, work, old);
     if i < places && has_old(map, i, old) {
-        return Mapped::To(new_at(map, i));
+        return Some(new_at(map, i));
     }
-    Mapped::Nothing
+    None
 }

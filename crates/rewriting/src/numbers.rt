@@ -10,13 +10,6 @@ ghost use Rattle.rewriting.specs.Written.{over, put_in, number_there};
 use readers::cursor::Cursor;
 use readers::tables::clear_bytes;
 
-// The answer of write_uleb128_padded.
-#[derive(Clone, Copy)]
-pub enum Padded {
-    Written,
-    Refused(u8),
-}
-
 // Whether a number has at most so many digits.
 fn fits(value: u64, base: u64, width: usize) -> bool
     requires { 0 < base }
@@ -92,16 +85,16 @@ pub(crate) fn put_fixed(value: u64, width: usize, big_endian: bool, out: &mut [u
 
 // Writes a ULEB128 number in exactly so many bytes at the start of a slice, zeros after it (gc.rs: `write_uleb128_padded`).
 // 15, and zeros, for a width of 0, above 10, below what the number needs or beyond the slice.
-pub fn write_uleb128_padded(value: u64, width: usize, out: &mut [u8]) -> Padded
+pub fn write_uleb128_padded(value: u64, width: usize, out: &mut [u8]) -> Result<(), u8>
     ensures answer { result ≡ padded_answer value width (length out.old) }
     ensures bytes { out.new ≡ padded_out value width (length out.old) }
 {
     if put_groups(value, width, out) {
         clear_bytes(&mut out[width..]);
-        return Padded::Written;
+        return Ok(());
     }
     clear_bytes(out);
-    Padded::Refused(15)
+    Err(15)
 }
 
 // Writes a number in its own encoding at the start of a part: whether it fits. A padded number has a part of exactly its
@@ -122,10 +115,10 @@ pub(crate) fn put_number(
             return false;
         }
         match write_uleb128_padded(value, width, &mut out[..width]) {
-            Padded::Written => {
+            Ok(()) => {
                 return true;
             }
-            Padded::Refused(_) => {
+            Err(_) => {
                 return false;
             }
         }

@@ -4,7 +4,7 @@ ghost use Rattle.rewriting.specs.Inner.NextKept.{items_by};
 ghost use Rattle.rewriting.specs.Inner.Measures.{Measures};
 ghost use Rattle.rewriting.specs.Inner.MapFilled.{Fills};
 
-use crate::kept_items::{KeptStep, PassPosition, Reading, next_kept};
+use crate::kept_items::{KeptItem, PassPosition, Reading, next_kept};
 use crate::map::put_place;
 use readers::cursor::Cursor;
 use readers::entries::Nesting;
@@ -43,7 +43,7 @@ pub(crate) fn place_items(
     let mut places: usize = 0;
     let mut new = UnitOffset(first.0);
     loop {
-        let KeptStep::Item(x) = next_kept(unit, abbreviations, r, index, parents, ends, marks, s)
+        let Some(x) = next_kept(unit, abbreviations, r, index, parents, ends, marks, s)
         else {
             return Size {
                 places,

@@ -7,7 +7,7 @@ ghost use Rattle.rewriting.specs.Places.{Place, sibling_of};
 ghost use Rattle.rewriting.specs.Inner.Written.{MapHeld, as_mapped};
 ghost use Rattle.rewriting.specs.Inner.Bounds.{AsDeep, BoundsFrom, Bounds};
 
-use crate::map::{Mapped, depth_at, has_old, hinted_place, new_at};
+use crate::map::{UnitOffset, depth_at, has_old, hinted_place, new_at};
 use readers::offsets::UnitOffset;
 
 // A number of the table; 0 where there is none.
@@ -40,13 +40,13 @@ pub(crate) fn sibling_offset(
     bounds: &[u32],
     old: UnitOffset,
     depth: u64,
-) -> Mapped
+) -> Option<UnitOffset>
     ensures { (ps : List Place) → MapHeld ps map.now → places ≡ length ps → Bounds ps bounds.now
         → result ≡ as_mapped (sibling_of ps depth old.0) }
 {
     let start = hinted_place(map, places, bounds, old);
     if start < places && has_old(map, start, old) {
-        return Mapped::To(new_at(map, start));
+        return Some(new_at(map, start));
     }
     // No for: a step is one place, or a whole block.
     let mut i = start;
@@ -56,12 +56,12 @@ pub(crate) fn sibling_offset(
             i = past;
         } else {
             if depth_at(map, i) <= depth {
-                return Mapped::To(new_at(map, i));
+                return Some(new_at(map, i));
             }
             i += 1;
         }
     }
-    Mapped::Nothing
+    None
 }
 
 // ---- the table

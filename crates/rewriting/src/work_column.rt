@@ -5,15 +5,15 @@ ghost use Rattle.rewriting.specs.Inner.Written.{MapHeld};
 ghost use Rattle.rewriting.specs.Inner.Bounds.{Bounds};
 
 use crate::hints::{LOCATION_HINTS, MAP_HINTS, RANGE_HINTS, STRING_HINTS, fill_hints};
-use crate::lists::ListCount;
+
 use crate::map::{NUMBER_SIZE, PLACE_SIZE};
 use crate::siblings::fill_bounds;
 
 // How many numbers a list has; 0 where it is absent.
-fn numbers(count: ListCount) -> usize {
+fn numbers(count: Option<usize>) -> usize {
     match count {
-        ListCount::Present(n) => n,
-        ListCount::Absent => 0,
+        Some(n) => n,
+        None => 0,
     }
 }
 
@@ -22,11 +22,11 @@ pub(crate) fn fill_work(
     map: &[u8],
     places: usize,
     ranges: &[u8],
-    ranges_count: ListCount,
+    ranges_count: Option<usize>,
     locations: &[u8],
-    locations_count: ListCount,
+    locations_count: Option<usize>,
     strings: &[u8],
-    strings_count: ListCount,
+    strings_count: Option<usize>,
     work: &mut [u32],
 )
     ensures { (ps : List Place) → MapHeld ps map.now → places ≡ length ps → Bounds ps work.new }

@@ -4,7 +4,7 @@
 
 use printing::answers::hex;
 use printing::text::{number, text};
-use rewriting::numbers::Padded;
+
 use std::io;
 use std::io::{BufWriter, Write};
 
@@ -14,10 +14,10 @@ fn padded(to: &mut impl Write, value: u64, width: usize, out: &mut [u8]) -> io::
     number(to, b" in ", width as u64)?;
     number(to, b" of ", out.len() as u64)?;
     match rewriting::numbers::write_uleb128_padded(value, width, out) {
-        Padded::Written => {
+        Ok(()) => {
             text(to, b" written")?;
         }
-        Padded::Refused(n) => {
+        Err(n) => {
             number(to, b" refused ", n as u64)?;
         }
     }

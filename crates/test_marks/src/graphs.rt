@@ -1,5 +1,5 @@
 // The marks of small graphs, worked by hand from document 01.
-use marking::marks::Marked;
+
 use printing::text::{number, text};
 use readers::offsets::NO_PARENT;
 use std::io;
@@ -32,10 +32,10 @@ fn case(
 ) -> io::Result<()> {
     text(to, name)?;
     match marking::marks::mark(parents, pairs, roots, marks) {
-        Marked::Kept(n) => {
+        Ok(n) => {
             number(to, b": kept ", n as u64)?;
         }
-        Marked::Refused(n) => {
+        Err(n) => {
             number(to, b": refused ", n as u64)?;
         }
     }

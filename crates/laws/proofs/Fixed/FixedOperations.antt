@@ -14,13 +14,14 @@ use Rattle.readers.specs.Operations.{Codes, row_unreadable, row_address, row_add
 use Rattle.readers.specs.declared.cursor.Encoding.{Encoding}
 use Rattle.readers.specs.declared.cursor.Cursor.{Cursor}
 use Rattle.readers.specs.declared.operations.Operation.{Operation}
-use Rattle.std.specs.Prelude.{Some}
+use Rattle.std.specs.Prelude.{Some, Ok, Result}
 use Rattle.marking.specs.Addresses.{is_tombstone, lookup_at}
 use Rattle.marking.specs.Members.{Member, here, there}
 use Rattle.marking.specs.Walking.{go, stop}
 use Rattle.marking.specs.Roots.{RootTurn, on_lookup, operation_live, operation_step}
-use Rattle.marking.specs.declared.addresses.AddressLookup.{AddressLookup}
-use Rattle.marking.specs.declared.addresses.AddressLookup.TheVariants.{Live, Dead}
+use Rattle.marking.specs.declared.addresses.Verdict.TheVariants.{Dead}
+use Rattle.marking.specs.declared.addresses.Verdict.TheVariants.{Live}
+use Rattle.marking.specs.declared.addresses.Verdict.{Verdict}
 use Rattle.marking.proofs.Lists.{index_live, address-live}
 use Rattle.marking.proofs.Tests.{and-out, or-out}
 use Rattle.laws.specs.FixedAddresses.{NoTombstone}
@@ -100,17 +101,17 @@ abbrev pub IsFixed : Encoding → Operation → Type 0
 IsFixed e op = (op.row ≡ row_address) × NoTombstone e op
 
 -- what is said where fixed addresses do not count, and where they do
-pub data Said (off on : AddressLookup) (F : Type 0) : Type 0 where
+pub data Said (off on : Result Verdict ℕ) (F : Type 0) : Type 0 where
   same : on ≡ off → Said off on F
-  more : off ≡ Dead → on ≡ Live → F → Said off on F
+  more : off ≡ Ok Dead → on ≡ Ok Live → F → Said off on F
 
 module _ (e : Encoding) (table : List ℕ) where
   -- THE judgement with the choice off: document 01's, an index of the table is asked and nothing else says anything
-  pub fixed_off : (op : Operation) → operation_live e false table op ≡ pick (eqb op.row row_address_index) (lookup_at table op.first.value) Dead
+  pub fixed_off : (op : Operation) → operation_live e false table op ≡ pick (eqb op.row row_address_index) (lookup_at table op.first.value) (Ok Dead)
   unfolding operation_live pick ◌and◌
   fixed_off op = refl
 
-  looked : (i : Bool) (l : AddressLookup) (t u : RootTurn) → on_lookup (pick i l Dead) stop t u ≡ pick i (on_lookup l stop t u) u
+  looked : (i : Bool) (l : Result Verdict ℕ) (t u : RootTurn) → on_lookup (pick i l (Ok Dead)) stop t u ≡ pick i (on_lookup l stop t u) u
   unfolding pick on_lookup
   looked true l t u = refl
   looked false l t u = refl
@@ -124,7 +125,7 @@ module _ (e : Encoding) (table : List ℕ) where
       (go (record { at = op.next.at; flag = live }))
   unfolding operation_step
   off-step live op =
-      ap (λ (l : AddressLookup). on_lookup l stop (go (record { at = op.next.at; flag = true })) (go (record { at = op.next.at; flag = live })))
+      ap (λ (l : Result Verdict ℕ). on_lookup l stop (go (record { at = op.next.at; flag = true })) (go (record { at = op.next.at; flag = live })))
       (fixed_off op)
       ∙ looked (eqb op.row row_address_index) _ _ _
 
@@ -142,15 +143,15 @@ module _ (e : Encoding) (table : List ℕ) where
   operation-said op =
       said op (eqb op.row row_address_index) (eqb op.row row_address) (is_tombstone op.first.value e.address_size) refl refl refl
 
-  pub fixed-live : (op : Operation) → IsFixed e op → operation_live e true table op ≡ Live
+  pub fixed-live : (op : Operation) → IsFixed e op → operation_live e true table op ≡ Ok Live
   fixed-live op f = sym (address-live e true table op (λ z. omega (arith, f.0)) refl f.0 false (sym f.1) refl)
 
   -- "as a live addrx does": wherever it stands, what follows is what follows a live index that ends at the same place
   pub as-live-index : (op index : Operation) → op.row ≡ row_address → NoTombstone e op → index.row ≡ row_address_index
-      → lookup_at table index.first.value ≡ Live → op.next ≡ index.next → (live : Bool)
+      → lookup_at table index.first.value ≡ Ok Live → op.next ≡ index.next → (live : Bool)
       → operation_step e true table live (Some op) ≡ operation_step e true table live (Some index)
   unfolding operation_step on_lookup
   as-live-index op index a f r l n live =
-      let t : operation_live e true table index ≡ Live = sym (index_live e true table index r Live (sym l)) in
-      ap₂ (λ (a : AddressLookup) (m : Cursor). on_lookup a stop (go (record { at = m.at; flag = true })) (go (record { at = m.at; flag = live })))
+      let t : operation_live e true table index ≡ Ok Live = sym (index_live e true table index r (Ok Live) (sym l)) in
+      ap₂ (λ (a : Result Verdict ℕ) (m : Cursor). on_lookup a stop (go (record { at = m.at; flag = true })) (go (record { at = m.at; flag = live })))
       (fixed-live op (a, f) ∙ sym t) n

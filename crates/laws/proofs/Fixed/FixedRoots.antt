@@ -12,8 +12,9 @@ use Rattle.readers.specs.Codes.{DW_TAG_variable}
 use Rattle.readers.specs.EntryAttributes.{Valued}
 use Rattle.readers.specs.declared.cursor.Encoding.{Encoding}
 use Rattle.readers.specs.declared.entries.Entry.{Entry}
-use Rattle.marking.specs.declared.root_test.Verdict.{Verdict}
-use Rattle.marking.specs.declared.root_test.Verdict.TheVariants.{Live, Dead, Refused}
+use Rattle.std.specs.Prelude.{Err, Ok, Result}
+use Rattle.marking.specs.declared.addresses.Verdict.{Verdict}
+use Rattle.marking.specs.declared.addresses.Verdict.TheVariants.{Live, Dead}
 use Rattle.marking.specs.Roots.{locations, Ranges, root_test}
 use Rattle.marking.specs.Analysis.{Sections, tag_of, values_of_entry, test_of}
 use Rattle.marking.proofs.RootTests.{variable-is}
@@ -23,7 +24,7 @@ use Rattle.laws.specs.FixedAddresses.{FixedLocation, FixedVariable, AlsoRoot}
 use Rattle.laws.proofs.Tables.NotRead.{behind-locations}
 use Rattle.laws.proofs.Fixed.FixedLocations.{Counted, locations-counted, locations-found}
 
-dead-not-live : Dead ≡ Live → ⊥
+dead-not-live : Ok Dead ≡ Ok Live → ⊥
 dead-not-live q = let z : ◌≡◌ {A = ℕ} 0 1 = cc in omega arith
 
 -- ---- the root test
@@ -40,7 +41,7 @@ module _ (e : Encoding) (x : Sections) (unit : List ℕ) (base : ℕ) (y : Entry
   unfolding test_of values_of_entry
   by-location v fixed = is-variable e _ fixed unit (tag_of y) attributes v
 
-  also-variable : FixedVariable e x unit y → test_of e (with_fixed x true) unit base y ≡ Dead → ⊥
+  also-variable : FixedVariable e x unit y → test_of e (with_fixed x true) unit base y ≡ Ok Dead → ⊥
   also-variable f q = locations-found e x.addresses unit attributes f.has (sym (by-location f.tag true) ∙ q)
 
   only-variable : tag_of y ≡ DW_TAG_variable
@@ -61,16 +62,16 @@ module _ (e : Encoding) (x : Sections) (unit : List ℕ) (base : ℕ) (y : Entry
         only = ⊎_elim (λ t. only-variable (eqb-true _ _ t)) (λ t. inl (other_tag t)) (either (eqb (tag_of y) DW_TAG_variable));
       }
 
-  live-not-dead : (v : Verdict) → ((n : ℕ) → v ≡ Refused n → ⊥) → (v ≡ Dead → ⊥) → v ≡ Live
-  live-not-dead Live d n = refl
-  live-not-dead Dead d n = absurd (n refl)
-  live-not-dead (Refused m) d n = absurd (d m refl)
+  live-not-dead : (v : Result Verdict ℕ) → ((n : ℕ) → v ≡ Err n → ⊥) → (v ≡ Ok Dead → ⊥) → v ≡ Ok Live
+  live-not-dead (Ok Live) d n = refl
+  live-not-dead (Ok Dead) d n = absurd (n refl)
+  live-not-dead (Err m) d n = absurd (d m refl)
 
   -- "Such a DW_OP_addr ends the root test": where a variable's attributes up to some place have it, and none up to there is refused, it is a
   -- root whatever stands behind them
   pub ended-law : tag_of y ≡ DW_TAG_variable → (vs more : List Valued) → values_of_entry e x unit y ≡ vs ++ more → FixedLocation e unit vs
-      → ((n : ℕ) → locations e true x.addresses unit vs ≡ Refused n → ⊥) → test_of e (with_fixed x true) unit base y ≡ Live
+      → ((n : ℕ) → locations e true x.addresses unit vs ≡ Err n → ⊥) → test_of e (with_fixed x true) unit base y ≡ Ok Live
   ended-law v vs more q f d =
       by-location v true
       ∙ ap (locations e true x.addresses unit) q
-      ∙ behind-locations Live dead-not-live e x.addresses more true unit vs (live-not-dead _ d (locations-found e x.addresses unit vs f))
+      ∙ behind-locations (Ok Live) dead-not-live e x.addresses more true unit vs (live-not-dead _ d (locations-found e x.addresses unit vs f))

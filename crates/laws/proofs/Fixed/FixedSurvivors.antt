@@ -8,8 +8,9 @@ use mathlib.Core.Logic.{inl, inr}
 use lib.ListN.{take}
 use Rattle.readers.specs.declared.cursor.Encoding.{Encoding}
 use Rattle.readers.specs.declared.entries.Entry.{Entry}
-use Rattle.marking.specs.declared.root_test.Verdict.{Verdict}
-use Rattle.marking.specs.declared.root_test.Verdict.TheVariants.{Live, Dead, Refused}
+use Rattle.std.specs.Prelude.{Err, Ok, Result}
+use Rattle.marking.specs.declared.addresses.Verdict.{Verdict}
+use Rattle.marking.specs.declared.addresses.Verdict.TheVariants.{Live, Dead}
 use Rattle.marking.specs.Survivors.{Survivor}
 use Rattle.marking.specs.Analysis.{Sections, Rooms, EntryRow, analysed, analysis_of, root_of}
 use Rattle.marking.specs.EntryRows.{unit_items}
@@ -33,10 +34,10 @@ use Rattle.laws.proofs.Keep.Treatments.{treatment-listed}
 -- ---- the variables
 
 -- a verdict that is not dead is not made so but by treatment 2
-not-dead-treated : (k : ℕ) (v : Verdict) → (k ≡ never_root → ⊥) → (v ≡ Dead → ⊥) → treated k v ≡ Dead → ⊥
-not-dead-treated k Live n d q = d (still-live k Live refl n ∙ q)
-not-dead-treated k Dead n d q = d refl
-not-dead-treated k (Refused m) n d q = d (still-refused k (Refused m) m refl ∙ q)
+not-dead-treated : (k : ℕ) (v : Result Verdict ℕ) → (k ≡ never_root → ⊥) → (v ≡ Ok Dead → ⊥) → treated k v ≡ Ok Dead → ⊥
+not-dead-treated k (Ok Live) n d q = d (still-live k (Ok Live) refl n ∙ q)
+not-dead-treated k (Ok Dead) n d q = d refl
+not-dead-treated k (Err m) n d q = d (still-refused k (Err m) m refl ∙ q)
 
 -- THE variables at a fixed address: where they count, each is a survivor of its unit, but for a keep list by which no variable is a root
 pub fixed-kept-law : (x : Sections) (section : List ℕ) (room : Rooms) (rows : List EntryRow) → analysis_of (with_fixed x true) section room ≡ analysed rows
@@ -52,7 +53,7 @@ fixed-kept-law x section room rows q n u k y at f =
 
 -- ---- all that survives without
 
-counted-held : (off on : Verdict) (F : Type 0) → Counted off on F → Held off on
+counted-held : (off on : Result Verdict ℕ) (F : Type 0) → Counted off on F → Held off on
 counted-held off on F (inl q) = subst (Held off) (sym q) (held_same off)
 counted-held off on F (inr q) = subst (Held off) (sym q.0) (held-live off)
 
@@ -60,8 +61,8 @@ counted-held off on F (inr q) = subst (Held off) (sym q.0) (held-live off)
 choice-held : (table : List ℕ) → Verdicts (λ (i : Bool). not i) (λ (i : Bool). table) (λ v. Held (v true) (v false))
 choice-held table =
     record {
-      of_live = held_same Live;
-      of-dead = held_same Dead;
+      of_live = held_same (Ok Live);
+      of-dead = held_same (Ok Dead);
       of-else = λ v w p q. held-else (v true) (w true) (v false) (w false) p q;
       of-low-pc = λ e a. held_same _;
       of-location = λ e s. counted-held _ _ _ (location-counted e table s);

@@ -8,8 +8,9 @@ use mathlib.Core.Logic.{◌↔◌}
 use lib.ListN.{take}
 use Rattle.readers.specs.Codes.{DW_AT_rnglists_base}
 use Rattle.readers.specs.declared.entries.Entry.{Entry}
-use Rattle.marking.specs.declared.root_test.Verdict.{Verdict}
-use Rattle.marking.specs.declared.root_test.Verdict.TheVariants.{Live}
+use Rattle.std.specs.Prelude.{Ok, Result}
+use Rattle.marking.specs.declared.addresses.Verdict.{Verdict}
+use Rattle.marking.specs.declared.addresses.Verdict.TheVariants.{Live}
 use Rattle.marking.specs.KeepList.{always_root, never_root}
 use Rattle.marking.specs.Survivors.{Survivor, first, root, parent, named, under_root, under_named}
 use Rattle.marking.specs.Analysis.{Sections, Rooms, EntryRow, analysed, tag_of, test_of, root_of, base_of, analysis_of}
@@ -43,7 +44,7 @@ module _ (x : Sections) (section : List ℕ) (room : Rooms) (rows : List EntryRo
   abbrev base : ℕ
   base = base_of u.header.encoding x unit DW_AT_rnglists_base own.rnglists_base y
 
-  abbrev test : Verdict
+  abbrev test : Result Verdict ℕ
   test = test_of u.header.encoding x unit base y
 
   by-list : TreatedBy x.keep (tag_of y) test (root_of u.header.encoding x unit base y)
@@ -55,7 +56,7 @@ module _ (x : Sections) (section : List ℕ) (room : Rooms) (rows : List EntryRo
   -- THE entries that are always roots: each is one, so it survives
   pub always-law : Treats x.keep (tag_of y) always_root → RootIn rows k × Survivor (graph_of rows) k
   always-law t =
-      let live : root_of u.header.encoding x unit base y ≡ Live = by-list.always t decided in
+      let live : root_of u.header.encoding x unit base y ≡ Ok Live = by-list.always t decided in
       let is : own.row.root ≡ 1 = not-dead-root _ _ own.of.root_is (λ d. live-not-dead (sym live ∙ d)) in
       let r : RootIn rows k = record { row = own.row; at = own.at; is = is } in
       (r, survivors.least.closed.has_roots k r)

@@ -6,10 +6,10 @@ use mathlib.Core.Bool.{Bool, true, false}
 use mathlib.Core.List.{List, [], ◌∷◌}
 use Rattle.readers.specs.Choice.{pick, ◌and◌, ◌or◌}
 use Rattle.readers.specs.Header.{header_of}
-use Rattle.std.specs.Prelude.{Option, Result}
+use Rattle.std.specs.Prelude.{Option, Result, Err, Ok}
 use Rattle.readers.specs.declared.header.UnitHeader.{UnitHeader}
-use Rattle.marking.specs.declared.root_test.Verdict.{Verdict}
-use Rattle.marking.specs.declared.root_test.Verdict.TheVariants.{Live, Dead, Refused}
+use Rattle.marking.specs.declared.addresses.Verdict.{Verdict}
+use Rattle.marking.specs.declared.addresses.Verdict.TheVariants.{Live, Dead}
 use Rattle.marking.specs.Roots.{or_else}
 use Rattle.marking.specs.KeepList.{KeepList, keep_refusal, treated}
 use Rattle.marking.specs.Analysis.{Sections, Rooms, EntryRow, Analysed, analysed, refused as not_analysed, onto, on_verdict, header_by, header_analysed}
@@ -28,11 +28,11 @@ use Rattle.laws.proofs.Keep.Treatments.{live-decided, dead-decided, was-refused}
 -- ---- verdicts by two lists
 
 -- refused with the same number, or by neither
-record Alike (v w : Verdict) : Type 0 where
-  pub there : (n : ℕ) → v ≡ Refused n → w ≡ Refused n
-  pub back : (n : ℕ) → w ≡ Refused n → v ≡ Refused n
+record Alike (v w : Result Verdict ℕ) : Type 0 where
+  pub there : (n : ℕ) → v ≡ Err n → w ≡ Err n
+  pub back : (n : ℕ) → w ≡ Err n → v ≡ Err n
 
-treated-alike : (k m : ℕ) (v w : Verdict) → v ≡ w → Alike (treated k v) (treated m w)
+treated-alike : (k m : ℕ) (v w : Result Verdict ℕ) → v ≡ w → Alike (treated k v) (treated m w)
 treated-alike k m v w same =
     record {
       there = λ n q. sym (still-refused m w n (sym same ∙ was-refused k v n q));
@@ -78,16 +78,16 @@ onto-beside offset parent r s names (analysed rows) b f =
     }
 onto-beside offset parent r s names (not_analysed n) b f = ap (onto (record { offset = offset; parent = parent; root = s; names = names })) f
 
-verdict-beside : (v w : Verdict) → Alike v w → (k h : ℕ → Analysed) → ((r s : ℕ) → Beside (k r) (h s)) → Beside (on_verdict v k) (on_verdict w h)
+verdict-beside : (v w : Result Verdict ℕ) → Alike v w → (k h : ℕ → Analysed) → ((r s : ℕ) → Beside (k r) (h s)) → Beside (on_verdict v k) (on_verdict w h)
 unfolding on_verdict
-verdict-beside Live Live a k h each = each 1 1
-verdict-beside Live Dead a k h each = each 1 0
-verdict-beside Dead Live a k h each = each 0 1
-verdict-beside Dead Dead a k h each = each 0 0
-verdict-beside Live (Refused n) a k h each = absurd (live-decided n (a.back n refl))
-verdict-beside Dead (Refused n) a k h each = absurd (dead-decided n (a.back n refl))
-verdict-beside (Refused n) w a k h each =
-    subst (λ (z : Verdict). Beside (not_analysed n) (on_verdict z h)) (sym (a.there n refl)) (refused-beside n)
+verdict-beside (Ok Live) (Ok Live) a k h each = each 1 1
+verdict-beside (Ok Live) (Ok Dead) a k h each = each 1 0
+verdict-beside (Ok Dead) (Ok Live) a k h each = each 0 1
+verdict-beside (Ok Dead) (Ok Dead) a k h each = each 0 0
+verdict-beside (Ok Live) (Err n) a k h each = absurd (live-decided n (a.back n refl))
+verdict-beside (Ok Dead) (Err n) a k h each = absurd (dead-decided n (a.back n refl))
+verdict-beside (Err n) w a k h each =
+    subst (λ (z : Result Verdict ℕ). Beside (not_analysed n) (on_verdict z h)) (sym (a.there n refl)) (refused-beside n)
 
 rows-beside : Analyses {I = Bool} (λ v. Alike (v true) (v false)) (λ root. Unit {0}) (λ a. Beside (a true) (a false))
 unfolding pick

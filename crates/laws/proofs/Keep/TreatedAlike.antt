@@ -11,7 +11,8 @@ use Rattle.readers.specs.Nesting.{closed}
 use Rattle.readers.specs.Stream.{Item, entry, terminator}
 use Rattle.readers.specs.declared.cursor.Encoding.{Encoding}
 use Rattle.readers.specs.declared.entries.Entry.{Entry}
-use Rattle.marking.specs.declared.root_test.Verdict.{Verdict}
+use Rattle.std.specs.Prelude.{Result}
+use Rattle.marking.specs.declared.addresses.Verdict.{Verdict}
 use Rattle.marking.specs.KeepList.{KeepList, keep_refusal, each_treats, ascends, treatment_in, treatment_of, treated}
 use Rattle.marking.specs.Analysis.{Sections, Rooms, EntryRow, Analysed, analysed, refused as not_analysed, tag_of, values_of_entry, test_of, root_of, names_of}
 use Rattle.marking.specs.Analysis.{base_of, analysis_of}
@@ -47,7 +48,7 @@ module _ (e : Encoding) (x : Sections) (one other : KeepList) (unit : List ℕ) 
     record {
       offset_is = q.0.offset_is;
       parent_is = q.0.parent_is;
-      root_is = subst (λ (v : Verdict). Tested v r.root) (root-same _ y (same 0 y next)) q.0.root_is;
+      root_is = subst (λ (v : Result Verdict ℕ). Tested v r.root) (root-same _ y (same 0 y next)) q.0.root_is;
       names_are = q.0.names_are;
     },
     rows_alike rest _ _ _ _ rows (λ n z at. same (suc n) z (behind_entry at)) q.1,

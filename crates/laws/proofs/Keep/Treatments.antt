@@ -11,8 +11,9 @@ use Rattle.readers.specs.Header.{header_of}
 use Rattle.readers.specs.declared.cursor.Encoding.{Encoding}
 use Rattle.readers.specs.declared.entries.Entry.{Entry}
 use Rattle.readers.proofs.Choice.{pick-either}
-use Rattle.marking.specs.declared.root_test.Verdict.{Verdict}
-use Rattle.marking.specs.declared.root_test.Verdict.TheVariants.{Live, Dead, Refused}
+use Rattle.std.specs.Prelude.{Err, Ok, Result}
+use Rattle.marking.specs.declared.addresses.Verdict.{Verdict}
+use Rattle.marking.specs.declared.addresses.Verdict.TheVariants.{Live, Dead}
 use Rattle.marking.specs.KeepList.{KeepList, always_root, never_root, each_treats, ascends, keep_refusal, treatment_in, treatment_of, treated}
 use Rattle.marking.specs.Analysis.{Sections, tag_of, values_of_entry, test_of, root_of, after_list, header_by}
 use Rattle.marking.proofs.KeepLists.{ascends-ascending, taken, treatment-at, treatment-none, still-refused, untreated}
@@ -52,34 +53,34 @@ treatment-listed keep tag k q = found_at keep.tags keep.treatments tag k q
 
 -- ---- what a treatment does to a verdict
 
-always-root : (v : Verdict) → Decided v → treated always_root v ≡ Live
+always-root : (v : Result Verdict ℕ) → Decided v → treated always_root v ≡ Ok Live
 unfolding treated pick
-always-root Live d = refl
-always-root Dead d = refl
-always-root (Refused n) d = absurd (d n refl)
+always-root (Ok Live) d = refl
+always-root (Ok Dead) d = refl
+always-root (Err n) d = absurd (d n refl)
 
-never-root : (v : Verdict) → Decided v → treated never_root v ≡ Dead
+never-root : (v : Result Verdict ℕ) → Decided v → treated never_root v ≡ Ok Dead
 unfolding treated pick
-never-root Live d = refl
-never-root Dead d = refl
-never-root (Refused n) d = absurd (d n refl)
+never-root (Ok Live) d = refl
+never-root (Ok Dead) d = refl
+never-root (Err n) d = absurd (d n refl)
 
-pub live-decided : Decided Live
+pub live-decided : Decided (Ok Live)
 live-decided n q = let z : ◌≡◌ {A = ℕ} 0 1 = cc in omega arith
 
-pub dead-decided : Decided Dead
+pub dead-decided : Decided (Ok Dead)
 dead-decided n q = let z : ◌≡◌ {A = ℕ} 0 1 = cc in omega arith
 
-pub was-refused : (k : ℕ) (v : Verdict) (n : ℕ) → treated k v ≡ Refused n → v ≡ Refused n
+pub was-refused : (k : ℕ) (v : Result Verdict ℕ) (n : ℕ) → treated k v ≡ Err n → v ≡ Err n
 unfolding treated
-was-refused k Live n q = absurd (pick-either Decided (eqb k never_root) Dead Live (λ _. dead-decided) (λ _. live-decided) n q)
-was-refused k Dead n q = absurd (pick-either Decided (eqb k always_root) Live Dead (λ _. live-decided) (λ _. dead-decided) n q)
-was-refused k (Refused m) n q = q
+was-refused k (Ok Live) n q = absurd (pick-either Decided (eqb k never_root) (Ok Dead) (Ok Live) (λ _. dead-decided) (λ _. live-decided) n q)
+was-refused k (Ok Dead) n q = absurd (pick-either Decided (eqb k always_root) (Ok Live) (Ok Dead) (λ _. live-decided) (λ _. dead-decided) n q)
+was-refused k (Err m) n q = q
 
 -- ---- an entry
 
 module _ (e : Encoding) (x : Sections) (unit : List ℕ) (base : ℕ) (y : Entry) where
-  abbrev test : Verdict
+  abbrev test : Result Verdict ℕ
   test = test_of e x unit base y
 
   abbrev treatment : ℕ

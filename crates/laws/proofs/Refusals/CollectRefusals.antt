@@ -26,8 +26,6 @@ use Rattle.rewriting.specs.Places.{NestedItem, Place, places_from, size_from}
 use Rattle.rewriting.specs.Rewriting.{Unit as Unit', Lists, Room, Rewrite, Collected, untouched, rewritten, refused, piece_refusal, or_next, pieces_refusal, reads_refusal, refusal_from, lists_fit, or_refused, rewrite_of, marks_collected, rows_collected, analysed_collected, declared_collected, header_collected, collect_of}
 use Rattle.laws.specs.ValueRefusals.{Unplaced, TooWide}
 use Rattle.rewriting.specs.Written.{groups_fit, padded_answer}
-use Rattle.rewriting.specs.declared.numbers.Padded.{Padded}
-use Rattle.rewriting.specs.declared.numbers.Padded.TheVariants.{Written, Refused as Refused'}
 use Rattle.laws.specs.RefusalStages.{UnitRead, unit_read, kept_in, lists_in, Thinnable, RefusedNumber, RefusedAt, at_header, at_abbreviations, at_entries, at_lists, at_map, at_output, at_place, at_width, at_list}
 use Rattle.laws.proofs.Again.Accepted.{kept-most}
 use Rattle.laws.proofs.Refusals.ValueRefusals.{eight-means, nine-means, refused-number}
@@ -295,11 +293,11 @@ module _ (x : Sections) (room : Room) (type_units : Bool) (section : List ℕ) w
 
 -- ---- a padded number: 15
 
-unfoldable PaddedNumbered : Padded → Type 0
-PaddedNumbered Written = Unit {0}
-PaddedNumbered (Refused' n) = PaddedRefusal n
+unfoldable PaddedNumbered : Result (Unit {0}) ℕ → Type 0
+PaddedNumbered (Ok tt) = Unit {0}
+PaddedNumbered (Err n) = PaddedRefusal n
 
-pub padded-refusal : (value width n k : ℕ) → padded_answer value width n ≡ Refused' k → PaddedRefusal k
+pub padded-refusal : (value width n k : ℕ) → padded_answer value width n ≡ Err k → PaddedRefusal k
 unfolding padded_answer PaddedNumbered is_one_of ◌or◌
 padded-refusal value width n k q =
-    subst PaddedNumbered q (pick-either PaddedNumbered (groups_fit value width n) Written (Refused' 15) (λ _. tt) (λ _. one_of _ 15 tt))
+    subst PaddedNumbered q (pick-either PaddedNumbered (groups_fit value width n) (Ok tt) (Err 15) (λ _. tt) (λ _. one_of _ 15 tt))

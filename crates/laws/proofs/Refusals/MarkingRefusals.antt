@@ -5,7 +5,7 @@ use Prim.Native.Nat.{ℕ}
 use native.Mathlib.Omega.{arith}
 use mathlib.Core.Bool.{Bool}
 use mathlib.Core.List.{List, ◌∷◌}
-use Rattle.std.specs.Prelude.{None, Ok, Option, Some}
+use Rattle.std.specs.Prelude.{None, Ok, Option, Some, Err, Result}
 use lib.ListN.{take}
 use lib.Dec.{T, eqb}
 use Rattle.readers.specs.Choice.{◌and◌, ◌or◌}
@@ -20,12 +20,10 @@ use Rattle.readers.specs.declared.cursor.Encoding.{Encoding}
 use Rattle.readers.specs.declared.header.UnitHeader.{UnitHeader}
 use Rattle.readers.specs.declared.entries.Entry.{Entry as Entry'}
 use Rattle.laws.proofs.Refusals.ReaderRefusals.{is_one_of, are_of, one_of, wider}
-use Rattle.marking.specs.declared.root_test.Verdict.{Verdict}
-use Rattle.marking.specs.declared.root_test.Verdict.TheVariants.{Live, Dead, Refused as Failed}
 use Rattle.marking.specs.declared.units.UnitMarks.{UnitMarks}
-use Rattle.marking.specs.declared.units.UnitMarks.TheVariants.{Marked, Refused as Refused''}
-use Rattle.marking.specs.declared.marks.Marked.{Marked as Marked'}
-use Rattle.marking.specs.declared.marks.Marked.TheVariants.{Kept as KeptCount, Refused as Refused'}
+use Rattle.marking.specs.declared.addresses.Verdict.{Verdict}
+use Rattle.marking.specs.Resolution.{marked}
+use Rattle.marking.specs.declared.addresses.Verdict.TheVariants.{Live, Dead}
 use Rattle.marking.specs.Roots.{Ranges, root_test}
 use Rattle.readers.specs.EntryAttributes.{Valued}
 use Rattle.marking.specs.EntryReferences.{ReferencesFound, found, refused as refused_after}
@@ -45,10 +43,10 @@ use Rattle.marking.proofs.ListedHeaders.{header-taken}
 -- ---- the root test: 5, and the table's own numbers
 
 -- a refusal is one of some numbers
-unfoldable pub VerdictOf : List ℕ → Verdict → Type 0
-VerdictOf ms Live = Unit {0}
-VerdictOf ms Dead = Unit {0}
-VerdictOf ms (Failed n) = OneOf ms n
+unfoldable pub VerdictOf : List ℕ → Result Verdict ℕ → Type 0
+VerdictOf ms (Ok Live) = Unit {0}
+VerdictOf ms (Ok Dead) = Unit {0}
+VerdictOf ms (Err n) = OneOf ms n
 
 -- the numbers with which a table fails
 abbrev pub FailuresOf : List ℕ → List ℕ → Type 0
@@ -58,23 +56,23 @@ pub either-failure : (ms table : List ℕ) → T (are_of ms table_numbers) → F
 either-failure ms table t index n f = wider table_numbers ms n t (failure-number table index n f)
 
 module _ (ms : List ℕ) where
-  verdict-fine : (v : Verdict) → NoRefusal Failed v → VerdictOf ms v
+  verdict-fine : (v : Result Verdict ℕ) → NoRefusal Err v → VerdictOf ms v
   unfolding VerdictOf
-  verdict-fine Live never = tt
-  verdict-fine Dead never = tt
-  verdict-fine (Failed n) never = absurd (never n refl)
+  verdict-fine (Ok Live) never = tt
+  verdict-fine (Ok Dead) never = tt
+  verdict-fine (Err n) never = absurd (never n refl)
 
-  verdict-failed : (n : ℕ) → OneOf ms n → VerdictOf ms (Failed n)
+  verdict-failed : (n : ℕ) → OneOf ms n → VerdictOf ms (Err n)
   unfolding VerdictOf
   verdict-failed n o = o
 
   root-numbered : OneOf ms 5 → (e : Encoding) (x : Ranges) → FailuresOf ms x.table → (fixed : Bool) (unit : List ℕ) (tag : ℕ) (vs : List Valued)
       → VerdictOf ms (root_test e x fixed unit tag vs)
   root-numbered five e x fails fixed unit tag vs =
-      settled-of x.table ms fails Failed (VerdictOf ms) verdict-fine verdict-failed _
+      settled-of x.table ms fails Err (VerdictOf ms) verdict-fine verdict-failed _
       (root_by (λ t. fixed) (λ (t : List ℕ). t) (verdicts-told (settling x.table ms) fixed five) e x.ranges x.ranges_base x.rnglists_base unit tag vs)
 
-pub root-refusal : (e : Encoding) (x : Ranges) (fixed : Bool) (unit : List ℕ) (tag : ℕ) (vs : List Valued) (n : ℕ) → root_test e x fixed unit tag vs ≡ Failed n
+pub root-refusal : (e : Encoding) (x : Ranges) (fixed : Bool) (unit : List ℕ) (tag : ℕ) (vs : List Valued) (n : ℕ) → root_test e x fixed unit tag vs ≡ Err n
     → RootRefusal n
 unfolding VerdictOf is_one_of are_of ◌or◌ ◌and◌
 root-refusal e x fixed unit tag vs n q =
@@ -104,17 +102,17 @@ unfolding onto AnalysedOf
 onto-of ms r (analysed rows) q = tt
 onto-of ms r (not_analysed n) q = q
 
-pub verdict-of : (ms : List ℕ) (v : Verdict) (k : ℕ → Analysed) → VerdictOf ms v → ((n : ℕ) → AnalysedOf ms (k n)) → AnalysedOf ms (on_verdict v k)
+pub verdict-of : (ms : List ℕ) (v : Result Verdict ℕ) (k : ℕ → Analysed) → VerdictOf ms v → ((n : ℕ) → AnalysedOf ms (k n)) → AnalysedOf ms (on_verdict v k)
 unfolding on_verdict VerdictOf
-verdict-of ms Live k q h = h 1
-verdict-of ms Dead k q h = h 0
-verdict-of ms (Failed n) k q h = none_of ms n q
+verdict-of ms (Ok Live) k q h = h 1
+verdict-of ms (Ok Dead) k q h = h 0
+verdict-of ms (Err n) k q h = none_of ms n q
 
-treated-of : (ms : List ℕ) (k : ℕ) (v : Verdict) → VerdictOf ms v → VerdictOf ms (treated k v)
+treated-of : (ms : List ℕ) (k : ℕ) (v : Result Verdict ℕ) → VerdictOf ms v → VerdictOf ms (treated k v)
 unfolding treated VerdictOf
-treated-of ms k Live q = pick-either (VerdictOf ms) (eqb k 2) Dead Live (λ _. tt) (λ _. tt)
-treated-of ms k Dead q = pick-either (VerdictOf ms) (eqb k 1) Live Dead (λ _. tt) (λ _. tt)
-treated-of ms k (Failed n) q = q
+treated-of ms k (Ok Live) q = pick-either (VerdictOf ms) (eqb k 2) (Ok Dead) (Ok Live) (λ _. tt) (λ _. tt)
+treated-of ms k (Ok Dead) q = pick-either (VerdictOf ms) (eqb k 1) (Ok Live) (Ok Dead) (λ _. tt) (λ _. tt)
+treated-of ms k (Err n) q = q
 
 pub names-of : (ms : List ℕ) → ((n : ℕ) → ScanRefusal n → OneOf ms n) → (f : ReferencesFound) (k : List ℕ → Analysed) → FoundNumbered f
     → ((xs : List ℕ) → f ≡ found xs → AnalysedOf ms (k xs)) → AnalysedOf ms (on_found f k)
@@ -184,26 +182,26 @@ entries-refusal x section room h ds n z q d a =
 -- ---- marks
 
 -- the marks of a unit are refused as its analysis is
-unfoldable MarksNumbered : UnitMarks → Type 0
-MarksNumbered (Marked n k) = Unit {0}
-MarksNumbered (Refused'' n) = AnalysisRefusal n
+unfoldable MarksNumbered : Result UnitMarks ℕ → Type 0
+MarksNumbered (marked n k) = Unit {0}
+MarksNumbered (Err n) = AnalysisRefusal n
 
 marks-numbered : (a : Analysed) → AnalysedOf analysis_numbers a → MarksNumbered (unit_marks a)
 unfolding unit_marks MarksNumbered AnalysedOf
 marks-numbered (analysed rows) h = tt
 marks-numbered (not_analysed n) h = h
 
-pub unit-marks-refusal : (x : Sections) (section : List ℕ) (room : Rooms) (n : ℕ) → unit_marks (analysis_of x section room) ≡ Refused'' n → AnalysisRefusal n
+pub unit-marks-refusal : (x : Sections) (section : List ℕ) (room : Rooms) (n : ℕ) → unit_marks (analysis_of x section room) ≡ Err n → AnalysisRefusal n
 unfolding MarksNumbered
 unit-marks-refusal x section room n q = subst MarksNumbered q (marks-numbered (analysis_of x section room) (analysis-numbered x section room))
 
 -- `mark`: 16
-unfoldable MarkNumbered : Marked' → Type 0
-MarkNumbered (KeptCount n) = Unit {0}
-MarkNumbered (Refused' n) = MarkRefusal n
+unfoldable MarkNumbered : Result ℕ ℕ → Type 0
+MarkNumbered (Ok n) = Unit {0}
+MarkNumbered (Err n) = MarkRefusal n
 
-pub mark-refusal : (g : Graph) (n k : ℕ) → mark_answer g n ≡ Refused' k → MarkRefusal k
+pub mark-refusal : (g : Graph) (n k : ℕ) → mark_answer g n ≡ Err k → MarkRefusal k
 unfolding mark_answer MarkNumbered is_one_of ◌or◌
 mark-refusal g n k q =
     subst MarkNumbered q
-    (pick-either MarkNumbered (takes g n) (KeptCount (kept_count (marks_of g))) (Refused' 16) (λ _. tt) (λ _. one_of _ 16 tt))
+    (pick-either MarkNumbered (takes g n) (Ok (kept_count (marks_of g))) (Err 16) (λ _. tt) (λ _. one_of _ 16 tt))

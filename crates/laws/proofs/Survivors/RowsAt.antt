@@ -10,8 +10,9 @@ use Rattle.readers.specs.declared.entries.Entry.{Entry}
 use Rattle.marking.specs.Members.{Nth, now, later}
 use Rattle.marking.specs.Analysis.{Sections, EntryRow}
 use Rattle.marking.specs.EntryRows.{Tested, RowOf, RowsOf}
-use Rattle.marking.specs.declared.root_test.Verdict.{Verdict}
-use Rattle.marking.specs.declared.root_test.Verdict.TheVariants.{Live, Dead}
+use Rattle.std.specs.Prelude.{Ok, Result}
+use Rattle.marking.specs.declared.addresses.Verdict.{Verdict}
+use Rattle.marking.specs.declared.addresses.Verdict.TheVariants.{Live, Dead}
 use Rattle.laws.specs.KeepLists.{Decided}
 use Rattle.laws.specs.UnitSurvivors.{EntryAt, next, behind_entry, behind_terminator}
 use Rattle.laws.proofs.Keep.Treatments.{live-decided, dead-decided}
@@ -42,17 +43,17 @@ module _ (e : Encoding) (x : Sections) (unit : List ℕ) where
 
 -- ---- the verdict of a row
 
-pub live-not-dead : Live ≡ Dead → ⊥
+pub live-not-dead : Ok Live ≡ Ok Dead → ⊥
 live-not-dead q = let z : ◌≡◌ {A = ℕ} 0 1 = cc in omega arith
 
-pub not-dead-root : (v : Verdict) (root : ℕ) → Tested v root → (v ≡ Dead → ⊥) → root ≡ 1
+pub not-dead-root : (v : Result Verdict ℕ) (root : ℕ) → Tested v root → (v ≡ Ok Dead → ⊥) → root ≡ 1
 not-dead-root v root (inl q) n = q.1
 not-dead-root v root (inr q) n = absurd (n q.0)
 
-pub dead-no-root : (v : Verdict) (root : ℕ) → Tested v root → v ≡ Dead → root ≡ 0
+pub dead-no-root : (v : Result Verdict ℕ) (root : ℕ) → Tested v root → v ≡ Ok Dead → root ≡ 0
 dead-no-root v root (inl q) d = absurd (live-not-dead (sym q.0 ∙ d))
 dead-no-root v root (inr q) d = q.1
 
-pub tested-decided : (v : Verdict) (root : ℕ) → Tested v root → Decided v
+pub tested-decided : (v : Result Verdict ℕ) (root : ℕ) → Tested v root → Decided v
 tested-decided v root (inl q) n r = live-decided n (sym q.0 ∙ r)
 tested-decided v root (inr q) n r = dead-decided n (sym q.0 ∙ r)

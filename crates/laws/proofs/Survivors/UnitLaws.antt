@@ -29,9 +29,9 @@ use Rattle.marking.specs.Columns.{offsets_in}
 use Rattle.marking.specs.Resolution.{graph_of, marks_in, unit_marks, Ascending}
 use Rattle.laws.specs.UnitSurvivors.{FirstUnit, GraphSays, SurvivorsOf, MarkedUnit}
 use Rattle.marking.specs.EntryRows.{Tested, RowOf, RowsOf, unit_items}
-use Rattle.marking.specs.declared.root_test.Verdict.{Verdict}
-use Rattle.marking.specs.declared.root_test.Verdict.TheVariants.{Live, Dead}
-use Rattle.marking.specs.declared.units.UnitMarks.TheVariants.{Marked}
+use Rattle.marking.specs.declared.addresses.Verdict.{Verdict}
+use Rattle.marking.specs.Resolution.{marked}
+use Rattle.marking.specs.declared.addresses.Verdict.TheVariants.{Live, Dead}
 use Rattle.marking.proofs.Graphs.{WellFormed, well-formed}
 use Rattle.laws.proofs.Survivors.KeptMarks.{marked-kept, kept-marked}
 use Rattle.laws.proofs.Survivors.MarkLaws.{taken-law, markings-law, marks-law, kept-count-law}
@@ -157,15 +157,15 @@ row_made r o p t ns a b c d =
     ap₂ (λ (i j : ℕ). row i j r.root r.names) a b ∙ ap₂ (λ (i : ℕ) (l : List ℕ). row o p i l) c d
 
 module _ (e : Encoding) (x : Sections) (unit : List ℕ) where
-  same-root : (v : Verdict) (a b : ℕ) → Tested v a → Tested v b → a ≡ b
+  same-root : (v : Result Verdict ℕ) (a b : ℕ) → Tested v a → Tested v b → a ≡ b
   same-root v a b =
       ⊎_elim
-      (λ (p : (v ≡ Live) × (a ≡ 1)). ⊎_elim
-      (λ (q : (v ≡ Live) × (b ≡ 1)). p.1 ∙ sym q.1)
-      (λ (q : (v ≡ Dead) × (b ≡ 0)). let l : v ≡ Live = p.0 in let d : v ≡ Dead = q.0 in let z : ◌≡◌ {A = ℕ} 0 1 = cc in absurd (omega arith)))
-      (λ (p : (v ≡ Dead) × (a ≡ 0)). ⊎_elim
-      (λ (q : (v ≡ Live) × (b ≡ 1)). let l : v ≡ Live = q.0 in let d : v ≡ Dead = p.0 in let z : ◌≡◌ {A = ℕ} 0 1 = cc in absurd (omega arith))
-      (λ (q : (v ≡ Dead) × (b ≡ 0)). p.1 ∙ sym q.1))
+      (λ (p : (v ≡ Ok Live) × (a ≡ 1)). ⊎_elim
+      (λ (q : (v ≡ Ok Live) × (b ≡ 1)). p.1 ∙ sym q.1)
+      (λ (q : (v ≡ Ok Dead) × (b ≡ 0)). let l : v ≡ Ok Live = p.0 in let d : v ≡ Ok Dead = q.0 in let z : ◌≡◌ {A = ℕ} 0 1 = cc in absurd (omega arith)))
+      (λ (p : (v ≡ Ok Dead) × (a ≡ 0)). ⊎_elim
+      (λ (q : (v ≡ Ok Live) × (b ≡ 1)). let l : v ≡ Ok Live = q.0 in let d : v ≡ Ok Dead = p.0 in let z : ◌≡◌ {A = ℕ} 0 1 = cc in absurd (omega arith))
+      (λ (q : (v ≡ Ok Dead) × (b ≡ 0)). p.1 ∙ sym q.1))
 
   same_row : (stack : List ℕ) (rb lb : ℕ) (y : Entry) (a b : EntryRow) → RowOf e x unit stack rb lb y a → RowOf e x unit stack rb lb y b → a ≡ b
   same_row stack rb lb y a b p q =
@@ -220,7 +220,7 @@ module _ (x : Sections) (section : List ℕ) (a b : List EntryRow) where
 -- ---- what marking a unit answers
 
 module _ (x : Sections) (section : List ℕ) (room : Rooms) (n k : ℕ) where
-  marked_by : (o : Analysed) → analysis_of x section room ≡ o → unit_marks o ≡ Marked n k → MarkedUnit x section room n k
+  marked_by : (o : Analysed) → analysis_of x section room ≡ o → unit_marks o ≡ marked n k → MarkedUnit x section room n k
   unfolding unit_marks
   marked_by (analysed rows) a q =
       let s : SurvivorsOf x section rows = unit-survivors x section room rows a in
@@ -235,5 +235,5 @@ module _ (x : Sections) (section : List ℕ) (room : Rooms) (n k : ℕ) where
       }
   marked_by (refused i) a q = let z : ◌≡◌ {A = ℕ} 0 1 = cc in absurd (omega arith)
 
-  pub marked-survivors : unit_marks (analysis_of x section room) ≡ Marked n k → MarkedUnit x section room n k
+  pub marked-survivors : unit_marks (analysis_of x section room) ≡ marked n k → MarkedUnit x section room n k
   marked-survivors = marked_by (analysis_of x section room) refl

@@ -7,7 +7,8 @@ use mathlib.Core.Logic.{◌⊎◌, inl, inr}
 use lib.ListN.{length, get_or}
 use Rattle.marking.specs.Addresses.{lookup_at}
 use Rattle.marking.proofs.Lookups.{no_table, byte_one}
-use Rattle.marking.specs.declared.addresses.AddressLookup.TheVariants.{Live, Fails}
+use Rattle.std.specs.Prelude.{Err, Ok}
+use Rattle.marking.specs.declared.addresses.Verdict.TheVariants.{Live}
 use Rattle.laws.specs.AddressTables.{ones, Eventually}
 use Rattle.laws.proofs.Tables.FromLookups.{NoRefusal, Carried}
 
@@ -73,8 +74,8 @@ module _ {X Y : Type 0} (refuse : ℕ → X) (refuse' : ℕ → Y) (f : ℕ → 
       let h = each (f 0) never in
       record { soon = soon-then g f (f 0) _ s h.soon; by-empty = h.by-empty }
 
-live-by-empty : (i : ℕ) → NoRefusal Fails (lookup_at [] i)
-live-by-empty i n q = let l : Live ≡ Fails n = no_table [] i refl ∙ q in let z : ◌≡◌ {A = ℕ} 0 1 = cc in omega arith
+live-by-empty : (i : ℕ) → NoRefusal Err (lookup_at [] i)
+live-by-empty i n q = let l : Ok Live ≡ Err n = no_table [] i refl ∙ q in let z : ◌≡◌ {A = ℕ} 0 1 = cc in omega arith
 
 pub all_live : (others : List ℕ) → Carried ones others (λ X. AsEmpty {X = X})
 unfolding ones

@@ -17,8 +17,8 @@ use Rattle.readers.specs.Abbreviations.{Placed, abbreviations_of}
 use Rattle.readers.specs.Stream.{Item, entry, terminator}
 use Rattle.readers.specs.declared.attributes.Attribute.{Attribute}
 use Rattle.readers.specs.declared.cursor.Encoding.{Encoding}
-use Rattle.marking.specs.declared.root_test.Verdict.{Verdict}
-use Rattle.marking.specs.declared.root_test.Verdict.TheVariants.{Live, Dead}
+use Rattle.marking.specs.declared.addresses.Verdict.{Verdict}
+use Rattle.marking.specs.declared.addresses.Verdict.TheVariants.{Live, Dead}
 use Rattle.marking.specs.EntryReferences.{ReferencesFound, found, refused as refused_after}
 use Rattle.marking.specs.Roots.{ranges_by, or_else, ranges_live, location_live, offset_live, low_pc, low_pcs, locations}
 use Rattle.marking.specs.Roots.{other_ranges, ranges_of, first_ranges, root_test}
@@ -43,20 +43,20 @@ pick-of P true f g p q = p
 pick-of P false f g p q = q
 
 -- verdicts, one by each table and choice
-pub record Verdicts {I : Type 0} (fixed : I → Bool) (table : I → List ℕ) (P : (I → Verdict) → Type 0) : Type 0 where
-  pub of_live : P (λ i. Live)
-  pub of-dead : P (λ i. Dead)
-  pub of-else : (v w : I → Verdict) → P v → P w → P (λ i. or_else (v i) (w i))
+pub record Verdicts {I : Type 0} (fixed : I → Bool) (table : I → List ℕ) (P : (I → Result Verdict ℕ) → Type 0) : Type 0 where
+  pub of_live : P (λ i. (Ok Live))
+  pub of-dead : P (λ i. (Ok Dead))
+  pub of-else : (v w : I → Result Verdict ℕ) → P v → P w → P (λ i. or_else (v i) (w i))
   pub of-low-pc : (e : Encoding) (a : Attribute) → P (λ i. low_pc e (table i) a)
   pub of-location : (e : Encoding) (s : List ℕ) → P (λ i. location_live e (fixed i) (table i) s)
   pub of-ranges : (e : Encoding) (s : List ℕ) (o : Option Cursor) → P (λ i. ranges_live e (table i) s o)
   pub of-offset : (e : Encoding) (s : List ℕ) (o : Option Cursor) → P (λ i. offset_live e s o)
 
 -- analyses, one by each; N is what holds of the numbers that say whether an entry is a root
-pub record Analyses {I : Type 0} (P : (I → Verdict) → Type 0) (N : (I → ℕ) → Type 0) (Q : (I → Analysed) → Type 0) : Type 0 where
+pub record Analyses {I : Type 0} (P : (I → Result Verdict ℕ) → Type 0) (N : (I → ℕ) → Type 0) (Q : (I → Analysed) → Type 0) : Type 0 where
   pub of_end : Q (λ i. analysed [])
   pub of-refused : (n : ℕ) → OneOf entry_numbers_but_table n → Q (λ i. not_analysed n)
-  pub of-verdict : (v : I → Verdict) → P v → (k : I → ℕ → Analysed) → ((root : I → ℕ) → N root → Q (λ i. k i (root i)))
+  pub of-verdict : (v : I → Result Verdict ℕ) → P v → (k : I → ℕ → Analysed) → ((root : I → ℕ) → N root → Q (λ i. k i (root i)))
       → Q (λ i. on_verdict (v i) (k i))
   pub of-onto : (offset parent : ℕ) (names : List ℕ) (root : I → ℕ) → N root → (a : I → Analysed) → Q a
       → Q (λ i. onto (record { offset = offset; parent = parent; root = root i; names = names }) (a i))
@@ -64,7 +64,7 @@ pub record Analyses {I : Type 0} (P : (I → Verdict) → Type 0) (N : (I → �
 module _ {I : Type 0} (fixed : I → Bool) (table : I → List ℕ) where
   -- ---- the root test
 
-  module _ {P : (I → Verdict) → Type 0} (v : Verdicts fixed table P) (e : Encoding) where
+  module _ {P : (I → Result Verdict ℕ) → Type 0} (v : Verdicts fixed table P) (e : Encoding) where
     low-pcs-by : (vs : List Valued) → P (λ i. low_pcs e (table i) vs)
     unfolding low_pcs
     low-pcs-by [] = v.of-dead
@@ -100,8 +100,8 @@ module _ {I : Type 0} (fixed : I → Bool) (table : I → List ℕ) where
   -- ---- the analysis
 
   -- P is what holds of root tests, R of them once they are treated
-  module _ {P R : (I → Verdict) → Type 0} {N : (I → ℕ) → Type 0} {Q : (I → Analysed) → Type 0} (v : Verdicts fixed table P) (a : Analyses R N Q)
-      (keep : I → KeepList) (treats : (tag : ℕ) (w : I → Verdict) → P w → R (λ i. treated (treatment_of (keep i) tag) (w i))) (x : Sections) where
+  module _ {P R : (I → Result Verdict ℕ) → Type 0} {N : (I → ℕ) → Type 0} {Q : (I → Analysed) → Type 0} (v : Verdicts fixed table P) (a : Analyses R N Q)
+      (keep : I → KeepList) (treats : (tag : ℕ) (w : I → Result Verdict ℕ) → P w → R (λ i. treated (treatment_of (keep i) tag) (w i))) (x : Sections) where
     abbrev by : I → Sections
     by i = with_keep (with_fixed (with_table x (table i)) (fixed i)) (keep i)
 
@@ -151,8 +151,8 @@ module _ {I : Type 0} (fixed : I → Bool) (table : I → List ℕ) where
           (λ ds. items-by h.encoding (take h.end section) room (start_of h.encoding) _ _)
 
   -- by one keep list
-  module _ {P : (I → Verdict) → Type 0} {N : (I → ℕ) → Type 0} {Q : (I → Analysed) → Type 0} (v : Verdicts fixed table P) (a : Analyses P N Q)
-      (treats : (k : ℕ) (w : I → Verdict) → P w → P (λ i. treated k (w i))) (x : Sections)
+  module _ {P : (I → Result Verdict ℕ) → Type 0} {N : (I → ℕ) → Type 0} {Q : (I → Analysed) → Type 0} (v : Verdicts fixed table P) (a : Analyses P N Q)
+      (treats : (k : ℕ) (w : I → Result Verdict ℕ) → P w → P (λ i. treated k (w i))) (x : Sections)
       (early : (n : ℕ) → OneOf (19 ∷ 20 ∷ 1 ∷ 2 ∷ 3 ∷ []) n → Q (λ i. not_analysed n)) where
     pub analysis-by : (section : List ℕ) (room : Rooms) → Q (λ i. analysis_of (with_fixed (with_table x (table i)) (fixed i)) section room)
     unfolding analysis_of header_by

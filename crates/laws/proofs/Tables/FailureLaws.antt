@@ -13,10 +13,8 @@ use Rattle.readers.specs.EntryAttributes.{Valued}
 use Rattle.readers.specs.declared.cursor.Encoding.{Encoding}
 use Rattle.readers.specs.declared.attributes.Attribute.{Attribute}
 use Rattle.readers.specs.declared.header.UnitHeader.{UnitHeader}
-use Rattle.marking.specs.declared.root_test.Verdict.{Verdict}
-use Rattle.marking.specs.declared.root_test.Verdict.TheVariants.{Refused as Failed}
 use Rattle.marking.specs.declared.units.UnitMarks.{UnitMarks}
-use Rattle.marking.specs.declared.units.UnitMarks.TheVariants.{Refused}
+use Rattle.marking.specs.declared.addresses.Verdict.{Verdict}
 use Rattle.marking.specs.Roots.{ranges_by, low_pc, location_live, ranges_live, root_test}
 use Rattle.marking.specs.Analysis.{Sections, Rooms, Analysed, analysed, refused as not_analysed, on_declared, unit_analysed, header_by, header_analysed, analysis_of}
 use Rattle.marking.specs.Resolution.{unit_marks}
@@ -45,28 +43,28 @@ five = one_of others 5 tt
 
 -- ---- what a root test asks
 
-same-verdict : (m n : ℕ) → Failed m ≡ Failed n → m ≡ n
+same-verdict : (m n : ℕ) → Err m ≡ Err n → m ≡ n
 same-verdict m n q = cc
 
 module _ (table : List ℕ) (n : ℕ) (o : OneOf table_numbers n) (e : Encoding) where
-  abbrev Answered : (List ℕ → Verdict) → Type 0
-  Answered v = Settled table others Failed v
+  abbrev Answered : (List ℕ → Result Verdict ℕ) → Type 0
+  Answered v = Settled table others Err v
 
-  verdict-failed : (v : List ℕ → Verdict) → Answered v → v table ≡ Failed n → FailedBy v Failed table n
-  verdict-failed v s q = settled-failure table others Failed v same-verdict s n (none_other n o) q
+  verdict-failed : (v : List ℕ → Result Verdict ℕ) → Answered v → v table ≡ Err n → FailedBy v Err table n
+  verdict-failed v s q = settled-failure table others Err v same-verdict s n (none_other n o) q
 
-  pub failure-low-pc : (a : Attribute) → low_pc e table a ≡ Failed n → FailedBy (λ t. low_pc e t a) Failed table n
+  pub failure-low-pc : (a : Attribute) → low_pc e table a ≡ Err n → FailedBy (λ t. low_pc e t a) Err table n
   failure-low-pc a = verdict-failed _ ((verdicts-told (settling table others) false five).of-low-pc e a)
 
-  pub failure-location : (fixed : Bool) (s : List ℕ) → location_live e fixed table s ≡ Failed n → FailedBy (λ t. location_live e fixed t s) Failed table n
+  pub failure-location : (fixed : Bool) (s : List ℕ) → location_live e fixed table s ≡ Err n → FailedBy (λ t. location_live e fixed t s) Err table n
   failure-location fixed s = verdict-failed _ ((verdicts-told (settling table others) fixed five).of-location e s)
 
-  pub failure-ranges : (s : List ℕ) (l : Option Cursor) → ranges_live e table s l ≡ Failed n → FailedBy (λ t. ranges_live e t s l) Failed table n
+  pub failure-ranges : (s : List ℕ) (l : Option Cursor) → ranges_live e table s l ≡ Err n → FailedBy (λ t. ranges_live e t s l) Err table n
   failure-ranges s l = verdict-failed _ ((verdicts-told (settling table others) false five).of-ranges e s l)
 
   pub failure-root : (ranges : List ℕ) (ranges_base rnglists_base : ℕ) (fixed : Bool) (unit : List ℕ) (tag : ℕ) (vs : List Valued)
-      → root_test e (ranges_by ranges table ranges_base rnglists_base) fixed unit tag vs ≡ Failed n
-      → FailedBy (λ t. root_test e (ranges_by ranges t ranges_base rnglists_base) fixed unit tag vs) Failed table n
+      → root_test e (ranges_by ranges table ranges_base rnglists_base) fixed unit tag vs ≡ Err n
+      → FailedBy (λ t. root_test e (ranges_by ranges t ranges_base rnglists_base) fixed unit tag vs) Err table n
   failure-root ranges ranges_base rnglists_base fixed unit tag vs =
       verdict-failed _ (root_by (λ t. fixed) (λ (t : List ℕ). t) (verdicts-told (settling table others) fixed five) e ranges ranges_base rnglists_base unit tag vs)
 
@@ -91,8 +89,8 @@ module _ (x : Sections) (section : List ℕ) (room : Rooms) where
       (λ index n f q. never n (failure-number x.addresses index n f) q)
 
   -- the answer of marking a unit
-  unfoldable MarksFailed : (n : ℕ) → UnitMarks → Type 0
-  MarksFailed n m = m ≡ Refused n → FailedBy (λ t. unit_marks (analysis_of (with_table x t) section room)) Refused x.addresses n
+  unfoldable MarksFailed : (n : ℕ) → Result UnitMarks ℕ → Type 0
+  MarksFailed n m = m ≡ Err n → FailedBy (λ t. unit_marks (analysis_of (with_table x t) section room)) Err x.addresses n
 
   marks-failed : (n : ℕ) → OneOf table_numbers n → (a : Analysed) → analysis_of x section room ≡ a → MarksFailed n (unit_marks a)
   unfolding unit_marks MarksFailed
@@ -108,8 +106,8 @@ module _ (x : Sections) (section : List ℕ) (room : Rooms) where
         decides = λ table m a g. ap unit_marks (f.decides table m a g);
       }
 
-  pub failure-marks : (n : ℕ) → OneOf table_numbers n → unit_marks (analysis_of x section room) ≡ Refused n
-      → FailedBy (λ t. unit_marks (analysis_of (with_table x t) section room)) Refused x.addresses n
+  pub failure-marks : (n : ℕ) → OneOf table_numbers n → unit_marks (analysis_of x section room) ≡ Err n
+      → FailedBy (λ t. unit_marks (analysis_of (with_table x t) section room)) Err x.addresses n
   unfolding MarksFailed
   failure-marks n o q = marks-failed n o (analysis_of x section room) refl q
 
@@ -182,6 +180,6 @@ no-failure-law x room type_units section n o q =
     let f = failure-law (with_table x []) room type_units section n o q in no-failure f.index n f.failure
 
 pub no-failure-marks : (x : Sections) (section : List ℕ) (room : Rooms) (n : ℕ) → OneOf table_numbers n
-    → unit_marks (analysis_of (with_table x []) section room) ≡ Refused n → ⊥
+    → unit_marks (analysis_of (with_table x []) section room) ≡ Err n → ⊥
 no-failure-marks x section room n o q =
     let f = failure-marks (with_table x []) section room n o q in no-failure f.index n f.failure

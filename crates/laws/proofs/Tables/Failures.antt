@@ -11,29 +11,31 @@ use mir.Facts.{eqb_yes, eqb_no, ltb_yes, ltb_no}
 use Rattle.readers.specs.Choice.{◌or◌}
 use Rattle.readers.proofs.Choice.{either}
 use Rattle.marking.specs.Addresses.{lookup_at}
-use Rattle.marking.specs.declared.addresses.AddressLookup.TheVariants.{Live, Dead, Fails}
+use Rattle.std.specs.Prelude.{Err, Ok}
+use Rattle.marking.specs.declared.addresses.Verdict.TheVariants.{Dead}
+use Rattle.marking.specs.declared.addresses.Verdict.TheVariants.{Live}
 use Rattle.marking.proofs.Lookups.{no_table, past-table, byte-zero, byte_one, byte-other}
 use Rattle.laws.specs.AddressTables.{Failure, byte_above, past_end}
 use Rattle.laws.specs.RefusalNumbers.{OneOf, table_numbers}
 use Rattle.laws.proofs.Refusals.ReaderRefusals.{is_one_of, one_of}
 
-pub live-no-failure : (n : ℕ) → Live ≡ Fails n → ⊥
+pub live-no-failure : (n : ℕ) → Ok Live ≡ Err n → ⊥
 live-no-failure n q = let z : ◌≡◌ {A = ℕ} 0 1 = cc in omega arith
 
-pub dead-no-failure : (n : ℕ) → Dead ≡ Fails n → ⊥
+pub dead-no-failure : (n : ℕ) → Ok Dead ≡ Err n → ⊥
 dead-no-failure n q = let z : ◌≡◌ {A = ℕ} 0 1 = cc in omega arith
 
-same_number : (m n : ℕ) → Fails m ≡ Fails n → m ≡ n
+same_number : (m n : ℕ) → Err m ≡ Err n → m ≡ n
 same_number m n q = cc
 
 module _ (table : List ℕ) (index : ℕ) where
   -- THE failures of a table, each with its number
-  pub failure-fails : (n : ℕ) → Failure table index n → lookup_at table index ≡ Fails n
+  pub failure-fails : (n : ℕ) → Failure table index n → lookup_at table index ≡ Err n
   failure-fails n (byte_above h b) = sym (byte-other table index h (λ z. omega arith) (λ z. omega arith))
   failure-fails n (past_end s h) = sym (past-table table index (λ z. omega arith) h)
 
-  module _ (n : ℕ) (q : lookup_at table index ≡ Fails n) where
-    abbrev numbered : (m : ℕ) → Fails m ≡ lookup_at table index → Failure table index m → Failure table index n
+  module _ (n : ℕ) (q : lookup_at table index ≡ Err n) where
+    abbrev numbered : (m : ℕ) → Err m ≡ lookup_at table index → Failure table index m → Failure table index n
     numbered m l f = subst (Failure table index) (same_number m n (l ∙ q)) f
 
     byte-fails : index < length table → Failure table index n

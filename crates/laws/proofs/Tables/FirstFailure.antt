@@ -7,8 +7,10 @@ use mathlib.Core.Logic.{⊎_elim}
 use Rattle.marking.specs.Members.{here, there}
 use Rattle.marking.proofs.Members.{nothing-in, in_left, in_right, in_either}
 use Rattle.marking.specs.Addresses.{lookup_at}
-use Rattle.marking.specs.declared.addresses.AddressLookup.{AddressLookup}
-use Rattle.marking.specs.declared.addresses.AddressLookup.TheVariants.{Live, Dead, Fails}
+use Rattle.std.specs.Prelude.{Err, Ok, Result}
+use Rattle.marking.specs.declared.addresses.Verdict.TheVariants.{Dead}
+use Rattle.marking.specs.declared.addresses.Verdict.TheVariants.{Live}
+use Rattle.marking.specs.declared.addresses.Verdict.{Verdict}
 use Rattle.laws.specs.AddressTables.{Failure, NoneFails, SameAt, FailedBy, AnsweredBy}
 use Rattle.laws.specs.RefusalNumbers.{OneOf}
 use Rattle.laws.proofs.Tables.Failures.{live-no-failure, dead-no-failure, failure-fails, fails-failure}
@@ -24,14 +26,14 @@ module _ (t : List ℕ) where
   abbrev Alike : Passed → List ℕ → Type 0
   Alike a table = SameAt t table a.asked
 
-  alone : (index : ℕ) → ((n : ℕ) → lookup_at t index ≡ Fails n → ⊥) → NoneFails t (index ∷ [])
+  alone : (index : ℕ) → ((n : ℕ) → lookup_at t index ≡ Err n → ⊥) → NoneFails t (index ∷ [])
   alone index never k n (here e) f = never n (sym (ap (lookup_at t) e) ∙ failure-fails t k n f)
   alone index never k n (there m) f = nothing-in k m
 
   none-asked : Passed
   none-asked = record { asked = []; fine = λ index n m f. nothing-in index m }
 
-  one-asked : (index : ℕ) → ((n : ℕ) → lookup_at t index ≡ Fails n → ⊥) → Passed
+  one-asked : (index : ℕ) → ((n : ℕ) → lookup_at t index ≡ Err n → ⊥) → Passed
   one-asked index never = record { asked = index ∷ []; fine = alone index never }
 
   both : Passed → Passed → Passed
@@ -55,8 +57,8 @@ module _ (t : List ℕ) where
     pub data Settled {X : Type 0} (refuse : ℕ → X) (f : List ℕ → X) : Type 0 where
       value : (a : Passed) (c : X) → NoRefusal refuse c → ((table : List ℕ) → Alike a table → f table ≡ c) → Settled refuse f
       other : (a : Passed) (n : ℕ) → OneOf others n → ((table : List ℕ) → Alike a table → f table ≡ refuse n) → Settled refuse f
-      failed : (a : Passed) (index n : ℕ) → lookup_at t index ≡ Fails n
-          → ((table : List ℕ) → Alike a table → (m : ℕ) → lookup_at table index ≡ Fails m → f table ≡ refuse m) → Settled refuse f
+      failed : (a : Passed) (index n : ℕ) → lookup_at t index ≡ Err n
+          → ((table : List ℕ) → Alike a table → (m : ℕ) → lookup_at table index ≡ Err m → f table ≡ refuse m) → Settled refuse f
 
     -- what follows a value
     settled-after : {X Y : Type 0} (refuse' : ℕ → Y) (f : List ℕ → X) (g : List ℕ → X → Y) (a : Passed) (c : X)
@@ -76,14 +78,14 @@ module _ (t : List ℕ) where
     settled-then refuse refuse' f g (failed a index n l d) keeps each =
         failed a index n l (λ table s m r. ap (g table) (d table s m r) ∙ keeps table m)
 
-    by_value : (index : ℕ) (c : AddressLookup) → NoRefusal Fails c → lookup_at t index ≡ c → Settled Fails (λ table. lookup_at table index)
+    by_value : (index : ℕ) (c : Result Verdict ℕ) → NoRefusal Err c → lookup_at t index ≡ c → Settled Err (λ table. lookup_at table index)
     unfolding one-asked
     by_value index c never q = value (one-asked index (λ n f. never n (sym q ∙ f))) c never (λ table s. s index (here refl) ∙ q)
 
-    by_answer : (index : ℕ) (c : AddressLookup) → lookup_at t index ≡ c → Settled Fails (λ table. lookup_at table index)
-    by_answer index (Fails n) q = failed none-asked index n q (λ table s m r. r)
-    by_answer index Live q = by_value index Live live-no-failure q
-    by_answer index Dead q = by_value index Dead dead-no-failure q
+    by_answer : (index : ℕ) (c : Result Verdict ℕ) → lookup_at t index ≡ c → Settled Err (λ table. lookup_at table index)
+    by_answer index (Err n) q = failed none-asked index n q (λ table s m r. r)
+    by_answer index (Ok Live) q = by_value index (Ok Live) live-no-failure q
+    by_answer index (Ok Dead) q = by_value index (Ok Dead) dead-no-failure q
 
     pub settling : Carried {I = List ℕ} (λ table. table) others (λ X. Settled {X = X})
     settling =

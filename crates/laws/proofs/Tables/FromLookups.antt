@@ -12,7 +12,7 @@ use Rattle.readers.specs.Operations.{row_address_address}
 use Rattle.readers.specs.Fields.{row_at}
 use Rattle.readers.specs.Steps.{operation_at, list_entry_at}
 use Rattle.readers.specs.declared.cursor.Encoding.{Encoding}
-use Rattle.std.specs.Prelude.{None, Option, Some}
+use Rattle.std.specs.Prelude.{None, Option, Some, Err, Ok, Result}
 use Rattle.readers.specs.declared.cursor.Cursor.{Cursor}
 use Rattle.readers.specs.declared.operations.ListStep.{ListStep}
 use Rattle.readers.specs.declared.fields.Operands.{Operands}
@@ -22,10 +22,8 @@ use Rattle.readers.specs.declared.operations.Operation.{Operation}
 use Rattle.readers.specs.declared.attributes.Attribute.{Attribute}
 use Rattle.readers.specs.Stream.{Item}
 use Rattle.marking.specs.Addresses.{lookup_at}
-use Rattle.marking.specs.declared.addresses.AddressLookup.{AddressLookup}
-use Rattle.marking.specs.declared.addresses.AddressLookup.TheVariants.{Live as Alive, Dead as NotAlive, Fails}
-use Rattle.marking.specs.declared.root_test.Verdict.{Verdict}
-use Rattle.marking.specs.declared.root_test.Verdict.TheVariants.{Live, Dead, Refused}
+use Rattle.marking.specs.declared.addresses.Verdict.{Verdict}
+use Rattle.marking.specs.declared.addresses.Verdict.TheVariants.{Live, Dead}
 use Rattle.marking.specs.Walking.{go, stop, on_next, walk_within, walk}
 use Rattle.marking.specs.Roots.{Flagged, place, RootTurn, or_else, on_lookup, range_entry, range_step, ranges_live}
 use Rattle.marking.specs.Roots.{operation_live, operation_step, location_live, older_step, older_live, range_pair, pair_step, pairs_live, offset_live, low_pc}
@@ -49,93 +47,93 @@ pub record Carried {I : Type 0} (table : I → List ℕ) (others : List ℕ) (Ho
   pub of-then : {X Y : Type 0} (refuse : ℕ → X) (refuse' : ℕ → Y) (f : I → X) (g : I → X → Y) → Holds X refuse f
       → ((i : I) (n : ℕ) → g i (refuse n) ≡ refuse' n) → ((c : X) → NoRefusal refuse c → Holds Y refuse' (λ i. g i c))
       → Holds Y refuse' (λ i. g i (f i))
-  pub of-lookup : (index : ℕ) → Holds AddressLookup Fails (λ i. lookup_at (table i) index)
+  pub of-lookup : (index : ℕ) → Holds (Result Verdict ℕ) Err (λ i. lookup_at (table i) index)
 
-alive-no-failure : NoRefusal Fails Alive
+alive-no-failure : NoRefusal Err (Ok Live)
 alive-no-failure n q = let z : ◌≡◌ {A = ℕ} 0 1 = cc in omega arith
 
-not-alive-no-failure : NoRefusal Fails NotAlive
+not-alive-no-failure : NoRefusal Err (Ok Dead)
 not-alive-no-failure n q = let z : ◌≡◌ {A = ℕ} 0 1 = cc in omega arith
 
-pub live-no-refusal : NoRefusal Refused Live
+pub live-no-refusal : NoRefusal Err (Ok Live)
 live-no-refusal = live-decided
 
-pub dead-no-refusal : NoRefusal Refused Dead
+pub dead-no-refusal : NoRefusal Err (Ok Dead)
 dead-no-refusal = dead-decided
 
 pub rows-no-refusal : (rows : List EntryRow) → NoRefusal not_analysed (analysed rows)
 rows-no-refusal rows n q = let z : ◌≡◌ {A = ℕ} 0 1 = cc in omega arith
 
 abbrev ends : ℕ → RootTurn
-ends n = stop (Refused n)
+ends n = stop (Err n)
 
 go-no-refusal : (p : Flagged) → NoRefusal ends (go p)
 go-no-refusal p n q = let z : ◌≡◌ {A = ℕ} 0 1 = cc in omega arith
 
-live-no-end : NoRefusal ends (stop Live)
+live-no-end : NoRefusal ends (stop (Ok Live))
 live-no-end n q = let z : ◌≡◌ {A = ℕ} 0 1 = cc in omega arith
 
-dead-no-end : NoRefusal ends (stop Dead)
+dead-no-end : NoRefusal ends (stop (Ok Dead))
 dead-no-end n q = let z : ◌≡◌ {A = ℕ} 0 1 = cc in omega arith
 
 module _ {I : Type 0} {table : I → List ℕ} {others : List ℕ} {Holds : (X : Type 0) → (ℕ → X) → (I → X) → Type 0}
     (c : Carried table others Holds) where
-  abbrev Told : (I → Verdict) → Type 0
-  Told v = Holds Verdict Refused v
+  abbrev Told : (I → Result Verdict ℕ) → Type 0
+  Told v = Holds (Result Verdict ℕ) Err v
 
   abbrev TurnTold : (I → RootTurn) → Type 0
   TurnTold t = Holds RootTurn ends t
 
-  live-told : Told (λ i. Live)
-  live-told = c.of-value Refused Live live-no-refusal
+  live-told : Told (λ i. (Ok Live))
+  live-told = c.of-value Err (Ok Live) live-no-refusal
 
-  dead-told : Told (λ i. Dead)
-  dead-told = c.of-value Refused Dead dead-no-refusal
+  dead-told : Told (λ i. (Ok Dead))
+  dead-told = c.of-value Err (Ok Dead) dead-no-refusal
 
   go-told : (p : Flagged) → TurnTold (λ i. go p)
   go-told p = c.of-value ends (go p) (go-no-refusal p)
 
-  stop-live : TurnTold (λ i. stop Live)
-  stop-live = c.of-value ends (stop Live) live-no-end
+  stop-live : TurnTold (λ i. stop (Ok Live))
+  stop-live = c.of-value ends (stop (Ok Live)) live-no-end
 
-  stop-dead : TurnTold (λ i. stop Dead)
-  stop-dead = c.of-value ends (stop Dead) dead-no-end
+  stop-dead : TurnTold (λ i. stop (Ok Dead))
+  stop-dead = c.of-value ends (stop (Ok Dead)) dead-no-end
 
   -- an index that is asked, and what follows if it is live, if it is dead
-  module _ {X : Type 0} (refuse : Verdict → X) (a b : X) (p : Holds X (λ n. refuse (Refused n)) (λ i. a))
-      (q : Holds X (λ n. refuse (Refused n)) (λ i. b)) where
-    by_answer : (l : AddressLookup) → NoRefusal Fails l → Holds X (λ n. refuse (Refused n)) (λ i. on_lookup l refuse a b)
+  module _ {X : Type 0} (refuse : Result Verdict ℕ → X) (a b : X) (p : Holds X (λ n. refuse (Err n)) (λ i. a))
+      (q : Holds X (λ n. refuse (Err n)) (λ i. b)) where
+    by_answer : (l : Result Verdict ℕ) → NoRefusal Err l → Holds X (λ n. refuse (Err n)) (λ i. on_lookup l refuse a b)
     unfolding on_lookup
-    by_answer Alive never = p
-    by_answer NotAlive never = q
-    by_answer (Fails n) never = absurd (never n refl)
+    by_answer (Ok Live) never = p
+    by_answer (Ok Dead) never = q
+    by_answer (Err n) never = absurd (never n refl)
 
-    looked : (l : I → AddressLookup) → Holds AddressLookup Fails l → Holds X (λ n. refuse (Refused n)) (λ i. on_lookup (l i) refuse a b)
+    looked : (l : I → Result Verdict ℕ) → Holds (Result Verdict ℕ) Err l → Holds X (λ n. refuse (Err n)) (λ i. on_lookup (l i) refuse a b)
     unfolding on_lookup
-    looked l h = c.of-then Fails (λ n. refuse (Refused n)) l (λ i l. on_lookup l refuse a b) h (λ i n. refl) by_answer
+    looked l h = c.of-then Err (λ n. refuse (Err n)) l (λ i l. on_lookup l refuse a b) h (λ i n. refl) by_answer
 
-    asked : (index : ℕ) → Holds X (λ n. refuse (Refused n)) (λ i. on_lookup (lookup_at (table i) index) refuse a b)
+    asked : (index : ℕ) → Holds X (λ n. refuse (Err n)) (λ i. on_lookup (lookup_at (table i) index) refuse a b)
     asked index = looked (λ i. lookup_at (table i) index) (c.of-lookup index)
 
   -- ---- walks
 
-  by_turn : (k : I → Flagged → Verdict) → ((p : Flagged) → Told (λ i. k i p)) → (t : RootTurn) → NoRefusal ends t
+  by_turn : (k : I → Flagged → Result Verdict ℕ) → ((p : Flagged) → Told (λ i. k i p)) → (t : RootTurn) → NoRefusal ends t
       → Told (λ i. on_next t (k i))
   unfolding on_next
   by_turn k on (go p) never = on p
-  by_turn k on (stop Live) never = live-told
-  by_turn k on (stop Dead) never = dead-told
-  by_turn k on (stop (Refused n)) never = absurd (never n refl)
+  by_turn k on (stop (Ok Live)) never = live-told
+  by_turn k on (stop (Ok Dead)) never = dead-told
+  by_turn k on (stop (Err n)) never = absurd (never n refl)
 
   module _ (f : I → Flagged → RootTurn) (each : (p : Flagged) → TurnTold (λ i. f i p)) where
-    within-told : (k : ℕ) (p : Flagged) → Told (λ i. walk_within k (f i) Dead p)
+    within-told : (k : ℕ) (p : Flagged) → Told (λ i. walk_within k (f i) (Ok Dead) p)
     unfolding walk_within on_next
     within-told zero p = dead-told
     within-told (suc k) p =
-        c.of-then ends Refused (λ i. f i p) (λ i t. on_next t (λ q. walk_within k (f i) Dead q)) (each p) (λ i n. refl)
-        (by_turn (λ i q. walk_within k (f i) Dead q) (λ q. within-told k q))
+        c.of-then ends Err (λ i. f i p) (λ i t. on_next t (λ q. walk_within k (f i) (Ok Dead) q)) (each p) (λ i n. refl)
+        (by_turn (λ i q. walk_within k (f i) (Ok Dead) q) (λ q. within-told k q))
 
-    walk-told : (end : ℕ) (p : Flagged) → Told (λ i. walk place end (f i) Dead p)
+    walk-told : (end : ℕ) (p : Flagged) → Told (λ i. walk place end (f i) (Ok Dead) p)
     unfolding walk
     walk-told end p = within-told _ p
 
@@ -164,7 +162,7 @@ module _ {I : Type 0} {table : I → List ℕ} {others : List ℕ} {Holds : (X :
     pairs-told : (s : List ℕ) (o : Option Cursor) → Told (λ i. pairs_live e s o)
     unfolding pairs_live
     pairs-told s (Some d) =
-        walk-told (λ i p. pick (ltb p.at (length s)) (pair_step e p.flag (row_at e s p.at row_address_address)) (stop Dead))
+        walk-told (λ i p. pick (ltb p.at (length s)) (pair_step e p.flag (row_at e s p.at row_address_address)) (stop (Ok Dead)))
         (λ p. turn-pick _ _ _ (pair_turn_lem _ _) stop-dead) (length s) _
     pairs-told s None = live-told
 
@@ -193,11 +191,11 @@ module _ {I : Type 0} {table : I → List ℕ} {others : List ℕ} {Holds : (X :
         walk-told (λ i p. range_step e (table i) p.flag (list_entry_at e false s p.at)) (λ p. range-turn p.flag _) (length s) _
     ranges-told s None = live-told
 
-    operation-told : (counted : Bool) (op : Operation) → Holds AddressLookup Fails (λ i. operation_live e counted (table i) op)
+    operation-told : (counted : Bool) (op : Operation) → Holds (Result Verdict ℕ) Err (λ i. operation_live e counted (table i) op)
     unfolding operation_live
     operation-told counted op =
-        pick-of (Holds AddressLookup Fails) _ _ _ (c.of-lookup _)
-        (pick-of (Holds AddressLookup Fails) _ _ _ (c.of-value Fails Alive alive-no-failure) (c.of-value Fails NotAlive not-alive-no-failure))
+        pick-of (Holds (Result Verdict ℕ) Err) _ _ _ (c.of-lookup _)
+        (pick-of (Holds (Result Verdict ℕ) Err) _ _ _ (c.of-value Err (Ok Live) alive-no-failure) (c.of-value Err (Ok Dead) not-alive-no-failure))
 
     operation-turn : (counted live : Bool) (o : Option Operation) → TurnTold (λ i. operation_step e counted (table i) live o)
     unfolding operation_step
@@ -205,7 +203,7 @@ module _ {I : Type 0} {table : I → List ℕ} {others : List ℕ} {Holds : (X :
         looked stop _ _ (go-told _) (go-told _) (λ i. operation_live e counted (table i) op) (operation-told counted op)
     operation-turn counted live None = c.of-refusal ends 5 five
 
-    end-turn : (live : Bool) → TurnTold (λ i. stop (pick live Live Dead))
+    end-turn : (live : Bool) → TurnTold (λ i. stop (pick live (Ok Live) (Ok Dead)))
     unfolding pick
     end-turn true = stop-live
     end-turn false = stop-dead
@@ -214,26 +212,26 @@ module _ {I : Type 0} {table : I → List ℕ} {others : List ℕ} {Holds : (X :
     unfolding location_live
     location-told counted s =
         walk-told
-        (λ i p. pick (ltb p.at (length s)) (operation_step e counted (table i) p.flag (operation_at e s p.at)) (stop (pick p.flag Live Dead)))
+        (λ i p. pick (ltb p.at (length s)) (operation_step e counted (table i) p.flag (operation_at e s p.at)) (stop (pick p.flag (Ok Live) (Ok Dead))))
         (λ p. turn-pick _ _ _ (operation-turn counted p.flag _) (end-turn p.flag)) (length s) _
 
     low_told : (v : Attribute) → Told (λ i. low_pc e (table i) v)
     unfolding low_pc
     low_told v =
-        pick-of Told _ _ _ (asked (λ r. r) Live Dead live-told dead-told _)
+        pick-of Told _ _ _ (asked (λ r. r) (Ok Live) (Ok Dead) live-told dead-told _)
         (pick-of Told _ _ _ (pick-of Told _ _ _ dead-told live-told) live-told)
 
-  or-else : (w : I → Verdict) → Told w → (u : Verdict) → NoRefusal Refused u → Told (λ i. or_else u (w i))
+  or-else : (w : I → Result Verdict ℕ) → Told w → (u : Result Verdict ℕ) → NoRefusal Err u → Told (λ i. or_else u (w i))
   unfolding or_else
-  or-else w q Live never = live-told
-  or-else w q Dead never = q
-  or-else w q (Refused n) never = absurd (never n refl)
+  or-else w q (Ok Live) never = live-told
+  or-else w q (Ok Dead) never = q
+  or-else w q (Err n) never = absurd (never n refl)
 
-  else-told : (v w : I → Verdict) → Told v → Told w → Told (λ i. or_else (v i) (w i))
+  else-told : (v w : I → Result Verdict ℕ) → Told v → Told w → Told (λ i. or_else (v i) (w i))
   unfolding or_else
-  else-told v w p q = c.of-then Refused Refused v (λ i u. or_else u (w i)) p (λ i n. refl) (or-else w q)
+  else-told v w p q = c.of-then Err Err v (λ i u. or_else u (w i)) p (λ i n. refl) (or-else w q)
 
-  pub verdicts-told : (counted : Bool) → OneOf others 5 → Verdicts (λ i. counted) table (λ v. Holds Verdict Refused v)
+  pub verdicts-told : (counted : Bool) → OneOf others 5 → Verdicts (λ i. counted) table (λ v. Holds (Result Verdict ℕ) Err v)
   verdicts-told counted five =
       record {
         of_live = live-told;
@@ -246,12 +244,12 @@ module _ {I : Type 0} {table : I → List ℕ} {others : List ℕ} {Holds : (X :
       }
 
   -- a verdict that is treated
-  by-treatment : (k : ℕ) (v : Verdict) → NoRefusal Refused v → Holds Verdict Refused (λ i. treated k v)
-  by-treatment k v never = c.of-value Refused (treated k v) (λ n q. never n (was-refused k v n q))
+  by-treatment : (k : ℕ) (v : Result Verdict ℕ) → NoRefusal Err v → Holds (Result Verdict ℕ) Err (λ i. treated k v)
+  by-treatment k v never = c.of-value Err (treated k v) (λ n q. never n (was-refused k v n q))
 
-  treatment-told : (k : ℕ) (v : I → Verdict) → Holds Verdict Refused v → Holds Verdict Refused (λ i. treated k (v i))
+  treatment-told : (k : ℕ) (v : I → Result Verdict ℕ) → Holds (Result Verdict ℕ) Err v → Holds (Result Verdict ℕ) Err (λ i. treated k (v i))
   unfolding treated
-  treatment-told k v p = c.of-then Refused Refused v (λ i w. treated k w) p (λ i n. refl) (by-treatment k)
+  treatment-told k v p = c.of-then Err Err v (λ i w. treated k w) p (λ i n. refl) (by-treatment k)
 
   -- ---- the analysis: an entry is a root by each of the tables, or by none
 
@@ -260,11 +258,11 @@ module _ {I : Type 0} {table : I → List ℕ} {others : List ℕ} {Holds : (X :
     pub by : root ≡ (λ i. is)
 
   by-verdict : (k : I → ℕ → Analysed) → ((root : I → ℕ) → Constant root → Holds Analysed not_analysed (λ i. k i (root i)))
-      → (v : Verdict) → NoRefusal Refused v → Holds Analysed not_analysed (λ i. on_verdict v (k i))
+      → (v : Result Verdict ℕ) → NoRefusal Err v → Holds Analysed not_analysed (λ i. on_verdict v (k i))
   unfolding on_verdict
-  by-verdict k each Live never = each (λ i. 1) (record { is = 1; by = refl })
-  by-verdict k each Dead never = each (λ i. 0) (record { is = 0; by = refl })
-  by-verdict k each (Refused n) never = absurd (never n refl)
+  by-verdict k each (Ok Live) never = each (λ i. 1) (record { is = 1; by = refl })
+  by-verdict k each (Ok Dead) never = each (λ i. 0) (record { is = 0; by = refl })
+  by-verdict k each (Err n) never = absurd (never n refl)
 
   one-onto : (r : EntryRow) (a : Analysed) → NoRefusal not_analysed a → Holds Analysed not_analysed (λ i. onto r a)
   unfolding onto
@@ -272,13 +270,13 @@ module _ {I : Type 0} {table : I → List ℕ} {others : List ℕ} {Holds : (X :
   one-onto r (not_analysed n) never = absurd (never n refl)
 
   rows_told : ((n : ℕ) → OneOf entry_numbers_but_table n → OneOf others n)
-      → Analyses (λ v. Holds Verdict Refused v) Constant (λ a. Holds Analysed not_analysed a)
+      → Analyses (λ v. Holds (Result Verdict ℕ) Err v) Constant (λ a. Holds Analysed not_analysed a)
   unfolding on_verdict onto
   rows_told among =
       record {
         of_end = c.of-value not_analysed (analysed []) (rows-no-refusal []);
         of-refused = λ n o. c.of-refusal not_analysed n (among n o);
-        of-verdict = λ v p k each. c.of-then Refused not_analysed v (λ i u. on_verdict u (k i)) p (λ i n. refl) (by-verdict k each);
+        of-verdict = λ v p k each. c.of-then Err not_analysed v (λ i u. on_verdict u (k i)) p (λ i n. refl) (by-verdict k each);
         of-onto = λ offset parent names root r a q.
             subst
             (λ (f : I → ℕ). Holds Analysed not_analysed (λ i. onto (record { offset = offset; parent = parent; root = f i; names = names }) (a i)))

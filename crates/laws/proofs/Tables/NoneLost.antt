@@ -6,8 +6,9 @@ use mathlib.Core.Bool.{Bool, true, false}
 use mathlib.Core.List.{List, [], ◌∷◌}
 use mathlib.Core.Logic.{inl, inr}
 use lib.ListN.{length}
-use Rattle.marking.specs.declared.root_test.Verdict.{Verdict}
-use Rattle.marking.specs.declared.root_test.Verdict.TheVariants.{Live, Dead, Refused as Failed}
+use Rattle.std.specs.Prelude.{Err, Ok, Result}
+use Rattle.marking.specs.declared.addresses.Verdict.{Verdict}
+use Rattle.marking.specs.declared.addresses.Verdict.TheVariants.{Live, Dead}
 use Rattle.marking.specs.Members.{Member, Nth, now, later}
 use Rattle.marking.specs.Survivors.{Survivor}
 use Rattle.marking.specs.Analysis.{Sections, Rooms, EntryRow, Analysed, analysed, refused as not_analysed, onto}
@@ -57,13 +58,13 @@ unfolding AnalysedHeld onto
 onto-held r s h (analysed rows) b f = record { all = s ∷ f.all; is = ap (onto s) f.is; held = one_more h f.held }
 onto-held r s h (not_analysed n) b f = tt
 
-verdict-held : (v w : Verdict) → Held v w → (k h : ℕ → Analysed) → ((r s : ℕ) → (r ≡ 1 → s ≡ 1) → AnalysedHeld (k r) (h s))
+verdict-held : (v w : Result Verdict ℕ) → Held v w → (k h : ℕ → Analysed) → ((r s : ℕ) → (r ≡ 1 → s ≡ 1) → AnalysedHeld (k r) (h s))
     → AnalysedHeld (on_verdict v k) (on_verdict w h)
 unfolding Held on_verdict AnalysedHeld
-verdict-held Live w q k h each = subst (λ (z : Verdict). AnalysedHeld (k 1) (on_verdict z h)) (sym q) (each 1 1 (λ e. e))
-verdict-held Dead w (inl q) k h each = subst (λ (z : Verdict). AnalysedHeld (k 0) (on_verdict z h)) (sym q) (each 0 1 (λ e. refl))
-verdict-held Dead w (inr q) k h each = subst (λ (z : Verdict). AnalysedHeld (k 0) (on_verdict z h)) (sym q) (each 0 0 (λ e. e))
-verdict-held (Failed n) w q k h each = tt
+verdict-held (Ok Live) w q k h each = subst (λ (z : Result Verdict ℕ). AnalysedHeld (k 1) (on_verdict z h)) (sym q) (each 1 1 (λ e. e))
+verdict-held (Ok Dead) w (inl q) k h each = subst (λ (z : Result Verdict ℕ). AnalysedHeld (k 0) (on_verdict z h)) (sym q) (each 0 1 (λ e. refl))
+verdict-held (Ok Dead) w (inr q) k h each = subst (λ (z : Result Verdict ℕ). AnalysedHeld (k 0) (on_verdict z h)) (sym q) (each 0 0 (λ e. e))
+verdict-held (Err n) w q k h each = tt
 
 -- a root by the ones (true) is one by the others (false)
 rows-held : Analyses {I = Bool} (λ v. Held (v true) (v false)) (λ root. root true ≡ 1 → root false ≡ 1)

@@ -6,7 +6,7 @@ use native.Mathlib.Omega.{arith}
 use mathlib.Core.Bool.{Bool, true, false}
 use mathlib.Core.List.{List, [], ◌∷◌, ◌++◌, append_assoc}
 use mathlib.Core.Logic.{◌⊎◌, inl, inr, ⊎_elim}
-use Rattle.std.specs.Prelude.{None, Option, Some}
+use Rattle.std.specs.Prelude.{None, Option, Some, Err, Ok, Result}
 use Rattle.readers.specs.declared.cursor.Cursor.{Cursor}
 use Rattle.readers.specs.declared.operations.ListStep.{ListStep}
 use lib.ListN.{length, take, drop, length-append, take-append-drop}
@@ -29,8 +29,8 @@ use Rattle.readers.specs.declared.cursor.Encoding.{Encoding}
 use Rattle.readers.specs.declared.operations.Operation.{Operation}
 use Rattle.readers.specs.declared.operations.ListEntry.{ListEntry}
 use Rattle.readers.specs.declared.operations.ListStep.TheVariants.{Entry, End}
-use Rattle.marking.specs.declared.root_test.Verdict.{Verdict}
-use Rattle.marking.specs.declared.root_test.Verdict.TheVariants.{Live, Dead, Refused}
+use Rattle.marking.specs.declared.addresses.Verdict.{Verdict}
+use Rattle.marking.specs.declared.addresses.Verdict.TheVariants.{Live, Dead}
 use Rattle.marking.specs.Walking.{go, stop, on_next, walk_within, walk}
 use Rattle.marking.specs.EntryReferences.{ReferencesFound, found, refused as refused_after}
 use Rattle.marking.specs.Roots.{Flagged, RootTurn, or_else, range_step, ranges_live, operation_step, location_live}
@@ -98,42 +98,42 @@ module _ (e : Encoding) (s more : List ℕ) (at : ℕ) where
 module _ (n : ℕ) where
   -- a turn that stops with another answer
   record Otherwise (t : RootTurn) : Type 0 where
-    pub verdict : Verdict
+    pub verdict : Result Verdict ℕ
     pub is : t ≡ stop verdict
-    pub other : verdict ≡ Refused n → ⊥
+    pub other : verdict ≡ Err n → ⊥
 
-  next-longer : (t : RootTurn) (k k' : Flagged → Verdict) → ((p : Flagged) → k p ≡ Refused n → k' p ≡ Refused n)
-      → on_next t k ≡ Refused n → on_next t k' ≡ Refused n
+  next-longer : (t : RootTurn) (k k' : Flagged → Result Verdict ℕ) → ((p : Flagged) → k p ≡ Err n → k' p ≡ Err n)
+      → on_next t k ≡ Err n → on_next t k' ≡ Err n
   unfolding on_next
   next-longer (go p) k k' each q = each p q
   next-longer (stop v) k k' each q = q
 
   module _ (f f' : Flagged → RootTurn) (each : (p : Flagged) → (f' p ≡ f p) ⊎ Otherwise (f p)) where
-    walk-longer : (k k' : ℕ) → k ≤ k' → (p : Flagged) → walk_within k f Dead p ≡ Refused n → walk_within k' f' Dead p ≡ Refused n
+    walk-longer : (k k' : ℕ) → k ≤ k' → (p : Flagged) → walk_within k f (Ok Dead) p ≡ Err n → walk_within k' f' (Ok Dead) p ≡ Err n
     unfolding walk_within on_next
     walk-longer zero k' l p q = absurd (dead-no-refusal n q)
     walk-longer (suc k) zero l p q = absurd (omega arith)
     walk-longer (suc k) (suc k') l p q =
         ⊎_elim
-        (λ s. ap (λ (t : RootTurn). on_next t (λ r. walk_within k' f' Dead r)) s
-        ∙ next-longer (f p) (λ r. walk_within k f Dead r) _ (λ r h. walk-longer k k' (omega arith) r h) q)
-        (λ o. absurd (o.other (sym (ap (λ (t : RootTurn). on_next t (λ r. walk_within k f Dead r)) o.is) ∙ q)))
+        (λ s. ap (λ (t : RootTurn). on_next t (λ r. walk_within k' f' (Ok Dead) r)) s
+        ∙ next-longer (f p) (λ r. walk_within k f (Ok Dead) r) _ (λ r h. walk-longer k k' (omega arith) r h) q)
+        (λ o. absurd (o.other (sym (ap (λ (t : RootTurn). on_next t (λ r. walk_within k f (Ok Dead) r)) o.is) ∙ q)))
         (each p)
 
 -- ---- expressions and range lists, of a table that fails
 
-five-apart : (n : ℕ) → OneOf table_numbers n → Refused 5 ≡ Refused n → ⊥
+five-apart : (n : ℕ) → OneOf table_numbers n → Err 5 ≡ Err n → ⊥
 unfolding is_one_of ◌or◌
 five-apart n o q = let e : n ≡ 5 = cc in not-one-of table_numbers n 5 e tt o
 
 module _ (e : Encoding) (fixed : Bool) (table s more : List ℕ) (n : ℕ) (o : OneOf table_numbers n) where
-  end-apart : (live : Bool) → pick live Live Dead ≡ Refused n → ⊥
+  end-apart : (live : Bool) → pick live (Ok Live) (Ok Dead) ≡ Err n → ⊥
   unfolding pick
   end-apart true q = live-no-refusal n q
   end-apart false q = dead-no-refusal n q
 
   abbrev operation_turn : List ℕ → Flagged → RootTurn
-  operation_turn s p = pick (ltb p.at (length s)) (operation_step e fixed table p.flag (operation_at e s p.at)) (stop (pick p.flag Live Dead))
+  operation_turn s p = pick (ltb p.at (length s)) (operation_step e fixed table p.flag (operation_at e s p.at)) (stop (pick p.flag (Ok Live) (Ok Dead)))
 
   by-operation : (p : Flagged) → p.at < length s → (r : Option Operation) → operation_at e s p.at ≡ r
       → (operation_turn (s ++ more) p ≡ operation_turn s p) ⊎ Otherwise n (operation_turn s p)
@@ -144,7 +144,7 @@ module _ (e : Encoding) (fixed : Bool) (table s more : List ℕ) (n : ℕ) (o : 
       ∙ sym (pick_yes (ltb p.at (length s)) _ _ (yes_ltb h)))
   by-operation p h None q =
       inr (record {
-        verdict = Refused 5;
+        verdict = Err 5;
         is = pick_yes (ltb p.at (length s)) _ _ (yes_ltb h) ∙ ap (operation_step e fixed table p.flag) q;
         other = five-apart n o;
       })
@@ -152,11 +152,11 @@ module _ (e : Encoding) (fixed : Bool) (table s more : List ℕ) (n : ℕ) (o : 
   operation-turns : (p : Flagged) → (operation_turn (s ++ more) p ≡ operation_turn s p) ⊎ Otherwise n (operation_turn s p)
   operation-turns p =
       ⊎_elim (λ t. by-operation p (ltb_yes t) (operation_at e s p.at) refl)
-      (λ t. inr (record { verdict = pick p.flag Live Dead; is = pick_no (ltb p.at (length s)) _ _ t; other = end-apart p.flag }))
+      (λ t. inr (record { verdict = pick p.flag (Ok Live) (Ok Dead); is = pick_no (ltb p.at (length s)) _ _ t; other = end-apart p.flag }))
       (either (ltb p.at (length s)))
 
   -- an expression that is refused so is, whatever stands behind it
-  pub behind-location : location_live e fixed table s ≡ Refused n → location_live e fixed table (s ++ more) ≡ Refused n
+  pub behind-location : location_live e fixed table s ≡ Err n → location_live e fixed table (s ++ more) ≡ Err n
   unfolding location_live walk
   behind-location q = walk-longer n (operation_turn s) (operation_turn (s ++ more)) operation-turns _ _ (omega (arith, length-append s more)) _ q
 
@@ -167,11 +167,11 @@ module _ (e : Encoding) (fixed : Bool) (table s more : List ℕ) (n : ℕ) (o : 
       → (range_turn (s ++ more) p ≡ range_turn s p) ⊎ Otherwise n (range_turn s p)
   unfolding range_step
   by-entry p (Some (Entry x)) q = inl (ap (range_step e table p.flag) (entry-longer e s more p.at x q ∙ sym q))
-  by-entry p (Some End) q = inr (record { verdict = Dead; is = ap (range_step e table p.flag) q; other = dead-no-refusal n })
-  by-entry p None q = inr (record { verdict = Refused 5; is = ap (range_step e table p.flag) q; other = five-apart n o })
+  by-entry p (Some End) q = inr (record { verdict = Ok Dead; is = ap (range_step e table p.flag) q; other = dead-no-refusal n })
+  by-entry p None q = inr (record { verdict = Err 5; is = ap (range_step e table p.flag) q; other = five-apart n o })
 
   -- and so is a list of a section
-  pub behind-ranges : (l : Option Cursor) → ranges_live e table s l ≡ Refused n → ranges_live e table (s ++ more) l ≡ Refused n
+  pub behind-ranges : (l : Option Cursor) → ranges_live e table s l ≡ Err n → ranges_live e table (s ++ more) l ≡ Err n
   unfolding ranges_live walk
   behind-ranges (Some c) q =
       walk-longer n (range_turn s) (range_turn (s ++ more)) (λ p. by-entry p (list_entry_at e false s p.at) refl) _ _
@@ -185,14 +185,14 @@ unfolding pick
 pick-stays c true x y x' y' f g q = f q
 pick-stays c false x y x' y' f g q = g q
 
-else-stays : (c v w w' : Verdict) → (w ≡ c → w' ≡ c) → or_else v w ≡ c → or_else v w' ≡ c
+else-stays : (c v w w' : Result Verdict ℕ) → (w ≡ c → w' ≡ c) → or_else v w ≡ c → or_else v w' ≡ c
 unfolding or_else
-else-stays c Live w w' f q = q
-else-stays c Dead w w' f q = f q
-else-stays c (Refused m) w w' f q = q
+else-stays c (Ok Live) w w' f q = q
+else-stays c (Ok Dead) w w' f q = f q
+else-stays c (Err m) w w' f q = q
 
 -- a verdict that is not dead ends the test
-module _ (c : Verdict) (ends : Dead ≡ c → ⊥) (e : Encoding) (table : List ℕ) (more : List Valued) where
+module _ (c : Result Verdict ℕ) (ends : Ok Dead ≡ c → ⊥) (e : Encoding) (table : List ℕ) (more : List Valued) where
   -- of the low_pc, whatever attributes stand behind it
   pub behind-low-pcs : (vs : List Valued) → low_pcs e table vs ≡ c → low_pcs e table (vs ++ more) ≡ c
   unfolding low_pcs
@@ -210,12 +210,12 @@ module _ (c : Verdict) (ends : Dead ≡ c → ⊥) (e : Encoding) (table : List 
       (else-stays c (location_live e fixed table (part_of unit a.value.field)) _ _ (behind-locations fixed unit vs)) (behind-locations fixed unit vs) q
 
 module _ (n : ℕ) where
-  verdict-stays : (v : Verdict) (k k' : ℕ → Analysed) → ((r : ℕ) → k r ≡ not_analysed n → k' r ≡ not_analysed n)
+  verdict-stays : (v : Result Verdict ℕ) (k k' : ℕ → Analysed) → ((r : ℕ) → k r ≡ not_analysed n → k' r ≡ not_analysed n)
       → on_verdict v k ≡ not_analysed n → on_verdict v k' ≡ not_analysed n
   unfolding on_verdict
-  verdict-stays Live k k' f q = f 1 q
-  verdict-stays Dead k k' f q = f 0 q
-  verdict-stays (Refused m) k k' f q = q
+  verdict-stays (Ok Live) k k' f q = f 1 q
+  verdict-stays (Ok Dead) k k' f q = f 0 q
+  verdict-stays (Err m) k k' f q = q
 
   found-stays : (r : ReferencesFound) (k k' : List ℕ → Analysed) → ((xs : List ℕ) → k xs ≡ not_analysed n → k' xs ≡ not_analysed n)
       → on_found r k ≡ not_analysed n → on_found r k' ≡ not_analysed n

@@ -11,15 +11,14 @@ use Rattle.readers.specs.declared.entries.Entry.{Entry}
 use Rattle.readers.specs.declared.entries.EntryHead.{EntryHead}
 use Rattle.readers.specs.declared.header.UnitHeader.{UnitHeader}
 use Rattle.marking.specs.EntryReferences.{ReferencesFound, found, refused as refused_after}
-use Rattle.marking.specs.declared.root_test.Verdict.{Verdict}
-use Rattle.marking.specs.declared.root_test.Verdict.TheVariants.{Live, Dead, Refused as Failed}
+use Rattle.marking.specs.declared.analysis.Analysis.{Analysis}
+use Rattle.marking.specs.declared.analysis.EntryAnalysis.{EntryAnalysis}
+use Rattle.marking.specs.declared.addresses.Verdict.{Verdict}
+use Rattle.marking.specs.Columns.{entries_counted}
+use Rattle.marking.specs.declared.addresses.Verdict.TheVariants.{Live, Dead}
 use Rattle.marking.specs.ReferenceTable.{placed, table_after}
 use Rattle.marking.specs.KeepList.{KeepList, keep_refusal}
 use Rattle.marking.specs.Analysis.{EntryRow, Analysed, analysed, refused}
-use Rattle.marking.specs.declared.analysis.EntryAnalysis.{EntryAnalysis}
-use Rattle.marking.specs.declared.analysis.EntryAnalysis.TheVariants.{Found as RowFound, Refused as NoRow}
-use Rattle.marking.specs.declared.analysis.Analysis.{Analysis}
-use Rattle.marking.specs.declared.analysis.Analysis.TheVariants.{Entries, Refused as Refused'}
 use Rattle.marking.specs.declared.analysis.UnitFound.{UnitFound}
 use Rattle.marking.specs.declared.analysis.UnitFound.TheVariants.{Unit as Found', Answered}
 use Rattle.marking.specs.Columns.{ends_in, names_in, offsets_in, pad_to, parents_in, roots_in}
@@ -57,41 +56,44 @@ pub record AnalysisInput (abbreviations index : List ℕ) (from : ℕ) (unit : L
   pub listed : keep_refusal keep ≡ 0
 
 -- what an answer leaves of a column: zeros after a refusal
-unfoldable pub left_by : Analysis → List ℕ → List ℕ
-left_by (Entries n m) col = col
-left_by (Refused' n) col = zeros (length col)
+unfoldable pub left_by : Result Analysis ℕ → List ℕ → List ℕ
+left_by (Ok a) col = col
+left_by (Err n) col = zeros (length col)
 
 -- what is to be analysed, by the header and the check of the declarations
 unfoldable pub unit_checked : UnitHeader → Checked → UnitFound
 unit_checked h Accepted = Found' h
-unit_checked h Undeclared = Answered (Refused' (refusal_of_checked Undeclared))
+unit_checked h Undeclared = Answered (Err (refusal_of_checked Undeclared))
 
 unfoldable pub unit_found : List ℕ → Result (Option UnitHeader) ℕ → UnitFound
-unit_found abbreviations (Ok None) = Answered (Entries 0 0)
-unit_found abbreviations (Err n) = Answered (Refused' n)
+unit_found abbreviations (Ok None) = Answered (entries_counted 0 0)
+unit_found abbreviations (Err n) = Answered (Err n)
 unit_found abbreviations (Ok (Some h)) = unit_checked h (checked_of abbreviations h.abbreviations)
 
 -- an entry by its head alone: where it ends is not asked by its root test, nor by its references
 abbrev pub headed : EntryHead → Entry
 headed h = entry_of h h.values
 
--- one entry whose values end there, or nowhere, which is 4 before anything else: the root test, then the references
-unfoldable pub root_found : ℕ → ℕ → Cursor → ℕ → ReferencesFound → EntryAnalysis
-root_found room at next root (found xs) = RowFound root (placed room at xs) next
-root_found room at next root (refused_after xs n) = NoRow n
+abbrev pub row_found : ℕ → ℕ → Cursor → Result EntryAnalysis ℕ
+row_found root to next = Ok (record { root = root; to = to; next = next })
 
-unfoldable pub entry_answer : ℕ → ℕ → Option Cursor → Verdict → ReferencesFound → EntryAnalysis
-entry_answer room at None v f = NoRow (refusal_of_step None)
-entry_answer room at (Some next) Live f = root_found room at next 1 f
-entry_answer room at (Some next) Dead f = root_found room at next 0 f
-entry_answer room at (Some next) (Failed n) f = NoRow n
+-- one entry whose values end there, or nowhere, which is 4 before anything else: the root test, then the references
+unfoldable pub root_found : ℕ → ℕ → Cursor → ℕ → ReferencesFound → Result EntryAnalysis ℕ
+root_found room at next root (found xs) = row_found root (placed room at xs) next
+root_found room at next root (refused_after xs n) = Err n
+
+unfoldable pub entry_answer : ℕ → ℕ → Option Cursor → Result Verdict ℕ → ReferencesFound → Result EntryAnalysis ℕ
+entry_answer room at None v f = Err (refusal_of_step None)
+entry_answer room at (Some next) (Ok Live) f = root_found room at next 1 f
+entry_answer room at (Some next) (Ok Dead) f = root_found room at next 0 f
+entry_answer room at (Some next) (Err n) f = Err n
 
 -- any other refusal of it
 unfoldable pub refusal_of : Option Cursor → ℕ → ℕ
 refusal_of None n = refusal_of_step None
 refusal_of (Some next) n = n
 
-unfoldable pub entry_table : List ℕ → ℕ → Verdict → ReferencesFound → List ℕ
-entry_table table at Live f = table_after table at f
-entry_table table at Dead f = table_after table at f
-entry_table table at (Failed n) f = table
+unfoldable pub entry_table : List ℕ → ℕ → Result Verdict ℕ → ReferencesFound → List ℕ
+entry_table table at (Ok Live) f = table_after table at f
+entry_table table at (Ok Dead) f = table_after table at f
+entry_table table at (Err n) f = table

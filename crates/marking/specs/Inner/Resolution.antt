@@ -4,14 +4,13 @@ use Rattle.readers.specs.Choice.{zeros}
 use Rattle.marking.specs.Graph.{takes}
 use Rattle.marking.specs.Analysis.{EntryRow}
 use Rattle.marking.specs.Columns.{offsets_in, parents_in, roots_in, names_in, ends_in}
-use Rattle.marking.specs.declared.units.EntryFound.{EntryFound}
-use Rattle.marking.specs.declared.units.EntryFound.TheVariants.{Entry, Nothing}
+use Rattle.readers.specs.declared.offsets.EntryIndex.{EntryIndex}
 use Rattle.marking.specs.Resolution.{Ascending, graph_of}
 
 -- as the code answers it
-unfoldable pub as_entry : Option ℕ → EntryFound
-as_entry None = Nothing
-as_entry (Some i) = Entry (record { 0 = i })
+unfoldable pub as_entry : Option ℕ → Option EntryIndex
+as_entry None = None
+as_entry (Some i) = Some (record { 0 = i })
 
 -- the offsets of n entries that can be searched by halves
 pub record Searched (offsets : List ℕ) (n : ℕ) : Type 0 where

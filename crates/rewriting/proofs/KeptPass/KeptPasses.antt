@@ -13,8 +13,7 @@ use Rattle.rewriting.specs.Inner.NextKept.{open_kept, ShowsItem, Forward, Stood,
 use Rattle.rewriting.specs.Inner.Measures.{ColumnsHeld, kept_of_unit, Measures}
 use Rattle.rewriting.specs.declared.kept_items.PassPosition.{PassPosition}
 use Rattle.rewriting.specs.declared.kept_items.KeptItem.{KeptItem}
-use Rattle.rewriting.specs.declared.kept_items.KeptStep.{KeptStep}
-use Rattle.rewriting.specs.declared.kept_items.KeptStep.TheVariants.{Item as Item', End}
+use Rattle.std.specs.Prelude.{None, Option, Some}
 use Rattle.rewriting.proofs.KeptPass.KeptSteps.{stand}
 
 pub shown-size : (x : KeptItem) (i : Item) → ShowsItem x i → size_of i ≡ x.end.at - x.start.0
@@ -36,20 +35,20 @@ shown-offset x (terminator a b) h = sym h.1
 module _ (items : ℕ → List Item) (parents ends marks unit : List ℕ) where
   -- ---- an answer, by its cases
 
-  module _ (s : PassPosition) (r : KeptStep) (a : Answers items parents ends marks unit s r) where
-    pub next-forward : (x : KeptItem) → r ≡ Item' x → (s.at.at ≤ x.start.0) × (x.start.0 < x.end.at) × (x.end.at ≤ length unit) × (x.next.at.at ≡ x.end.at)
+  module _ (s : PassPosition) (r : Option KeptItem) (a : Answers items parents ends marks unit s r) where
+    pub next-forward : (x : KeptItem) → r ≡ Some x → (s.at.at ≤ x.start.0) × (x.start.0 < x.end.at) × (x.end.at ≤ length unit) × (x.next.at.at ≡ x.end.at)
     unfolding Forward
     next-forward x q = subst (Forward unit s.at.at) q a.forward
 
-    pub next-item : (x : KeptItem) → r ≡ Item' x → (stack : List ℕ) → Stood items parents ends s stack → NextItem items parents ends marks s stack x
+    pub next-item : (x : KeptItem) → r ≡ Some x → (stack : List ℕ) → Stood items parents ends s stack → NextItem items parents ends marks s stack x
     unfolding Next
     next-item x q stack h = subst (Next items parents ends marks s stack) q (a.next stack h)
 
-    pub next-end : r ≡ End → (stack : List ℕ) → Stood items parents ends s stack → kept_at items parents ends marks s stack ≡ []
+    pub next-end : r ≡ None → (stack : List ℕ) → Stood items parents ends s stack → kept_at items parents ends marks s stack ≡ []
     unfolding Next
     next-end q stack h = subst (Next items parents ends marks s stack) q (a.next stack h)
 
-    pub next-less : (x : KeptItem) → r ≡ Item' x → length unit - x.next.at.at < length unit - s.at.at
+    pub next-less : (x : KeptItem) → r ≡ Some x → length unit - x.next.at.at < length unit - s.at.at
     next-less x q =
         let f = next-forward x q in
         let f0 : s.at.at ≤ x.start.0 = f.0 in
@@ -99,8 +98,8 @@ module _ (items : ℕ → List Item) (parents ends marks unit : List ℕ) where
             };
       }
 
-  module _ (first : ℕ) (s : PassPosition) (places bytes : ℕ) (m : Measuring first s places bytes) (r : KeptStep) (a : Answers items parents ends marks unit s r) where
-    pub measuring-end : r ≡ End → Measures items unit parents ends marks first (record { places = places; bytes = bytes })
+  module _ (first : ℕ) (s : PassPosition) (places bytes : ℕ) (m : Measuring first s places bytes) (r : Option KeptItem) (a : Answers items parents ends marks unit s r) where
+    pub measuring-end : r ≡ None → Measures items unit parents ends marks first (record { places = places; bytes = bytes })
     unfolding size_from
     measuring-end q =
         record {
@@ -114,7 +113,7 @@ module _ (items : ℕ → List Item) (parents ends marks unit : List ℕ) where
               (omega (arith, d.many), omega (arith, d.size));
         }
 
-    module _ (x : KeptItem) (q : r ≡ Item' x) where
+    module _ (x : KeptItem) (q : r ≡ Some x) where
       pub measuring-fits : (places < x.end.at) × (x.start.0 ≤ x.end.at) × (bytes + (x.end.at - x.start.0) ≤ x.end.at) × (x.end.at ≤ length unit)
       measuring-fits =
           let f = next-forward s r a x q in

@@ -37,7 +37,6 @@ use Rattle.rewriting.specs.Inner.Parents.{parents_from, HoldsFrom}
 use Rattle.rewriting.specs.Inner.Ends.{end_number, EndsHeld}
 use Rattle.rewriting.specs.Inner.NextKept.{open_kept, closes_kept, ShowsItem, Forward, Stood, kept_at, Next, Answers}
 use Rattle.rewriting.specs.declared.kept_items.PassPosition.{PassPosition}
-use Rattle.rewriting.specs.declared.kept_items.KeptStep.TheVariants.{Item as Item', End}
 
 -- ---- tests
 
@@ -269,7 +268,7 @@ module _ (e : Encoding) (abbreviations : List ℕ) (look : ℕ → Option Declar
     depth-of t stack m = ap (λ (n : Nesting). n.depth) m
 
     module _ (s t : PassPosition) (w : Walking s t) where
-      pub end-end : step_at e abbreviations look unit t.at.at ≡ Some StepEnd → Answers items parents ends marks unit s End
+      pub end-end : step_at e abbreviations look unit t.at.at ≡ Some StepEnd → Answers items parents ends marks unit s None
       unfolding Forward Next kept_from
       end-end q =
           record {
@@ -279,7 +278,7 @@ module _ (e : Encoding) (abbreviations : List ℕ) (look : ℕ → Option Declar
                 v.same ∙ ap (kept_from marks t.count.0 (open_kept marks v.now)) (items-end t.at.at q);
           }
 
-      pub end-bad : step_at e abbreviations look unit t.at.at ≡ None → Answers items parents ends marks unit s End
+      pub end-bad : step_at e abbreviations look unit t.at.at ≡ None → Answers items parents ends marks unit s None
       unfolding Forward Next kept_from
       end-bad q =
           record {
@@ -292,7 +291,7 @@ module _ (e : Encoding) (abbreviations : List ℕ) (look : ℕ → Option Declar
       module _ (x : Entry) (q : step_at e abbreviations look unit t.at.at ≡ Some (Entry' x)) where
         module _ (n : Nesting) (m : n ≡ nesting_opened x.declaration.children t.count.0 t.nesting) (few : t.count.0 < 2 ^ 64 - 1) where
           pub entry-item : is_kept marks t.count.0 ≡ true
-              → Answers items parents ends marks unit s (Item' (record {
+              → Answers items parents ends marks unit s (Some (record {
                 start = record { 0 = t.at.at };
                 end = x.next;
                 depth = t.nesting.depth;
@@ -338,7 +337,7 @@ module _ (e : Encoding) (abbreviations : List ℕ) (look : ℕ → Option Declar
 
         module _ (n : Nesting) (m : n ≡ nesting_closed parents t.nesting) where
           pub terminator-item : closes_kept marks t.nesting ≡ true
-              → Answers items parents ends marks unit s (Item' (record {
+              → Answers items parents ends marks unit s (Some (record {
                 start = record { 0 = t.at.at };
                 end = c;
                 depth = t.nesting.depth;
@@ -381,7 +380,7 @@ module _ (e : Encoding) (abbreviations : List ℕ) (look : ℕ → Option Declar
       -- ---- an entry, by the column of ends
 
       module _ (h : t.at.at < length unit) (b : Option (ℕ × Cursor)) (p : b ≡ leb_at uleb unit t.at.at) where
-        pub stop-none : b ≡ None → Answers items parents ends marks unit s End
+        pub stop-none : b ≡ None → Answers items parents ends marks unit s None
         stop-none q = end-bad (sym (step-none e abbreviations look unit t.at.at h b p q))
 
         module _ (code : ℕ) (values : Cursor) (q : b ≡ Some (code, values)) where
@@ -392,10 +391,10 @@ module _ (e : Encoding) (abbreviations : List ℕ) (look : ℕ → Option Declar
           past-code = uleb-inside unit t.at.at code values (sym p ∙ q)
 
           module _ (z : code ≡ 0 → ⊥) where
-            pub stop-unknown : (f : Option Declaration) → whole_found abbreviations f ≡ look code → f ≡ None → Answers items parents ends marks unit s End
+            pub stop-unknown : (f : Option Declaration) → whole_found abbreviations f ≡ look code → f ≡ None → Answers items parents ends marks unit s None
             stop-unknown f k l = end-bad (sym (step-unknown e abbreviations look unit t.at.at h b p code values q z f k l))
 
-            stop-unless : ((x : CodedEntry t.at.at code values) (stack : List ℕ) → Stood items parents ends t stack → ⊥) → Answers items parents ends marks unit s End
+            stop-unless : ((x : CodedEntry t.at.at code values) (stack : List ℕ) → Stood items parents ends t stack → ⊥) → Answers items parents ends marks unit s None
             unfolding Forward
             stop-unless f =
                 record {
@@ -406,7 +405,7 @@ module _ (e : Encoding) (abbreviations : List ℕ) (look : ℕ → Option Declar
                 }
 
             -- the column has a number, not 0, for each entry
-            pub stop-past : (k : ℕ) → k ≡ t.count.0 → length ends ≤ k → Answers items parents ends marks unit s End
+            pub stop-past : (k : ℕ) → k ≡ t.count.0 → length ends ≤ k → Answers items parents ends marks unit s None
             stop-past k is l = stop-unless (λ x stack g.
                 let i = step-inside e abbreviations look unit t.at.at x.of x.is in
                 let y : x.of.next.at ≡ 0 =
@@ -421,13 +420,13 @@ module _ (e : Encoding) (abbreviations : List ℕ) (look : ℕ → Option Declar
               opens : (x : CodedEntry t.at.at code values) (stack : List ℕ) → Stood items parents ends t stack → eqb (n % 2) 1 ≡ x.of.declaration.children
               opens x stack g = ap (λ (m : ℕ). eqb (m % 2) 1) (is ∙ (entry-ends t x.of x.is g.ends_hold).0) ∙ odd x.of.next.at x.of.declaration.children
 
-              pub stop-low : n / 2 < values.at → Answers items parents ends marks unit s End
+              pub stop-low : n / 2 < values.at → Answers items parents ends marks unit s None
               stop-low l = stop-unless (λ x stack g.
                   let i = step-inside e abbreviations look unit t.at.at x.of x.is in
                   let k : x.of.values.at ≡ values.at = ap (λ (c : Cursor). c.at) x.from in
                   omega (arith, i.ahead, ends_at x stack g))
 
-              pub stop-high : length unit < n / 2 → Answers items parents ends marks unit s End
+              pub stop-high : length unit < n / 2 → Answers items parents ends marks unit s None
               stop-high l = stop-unless (λ x stack g.
                   let i = step-inside e abbreviations look unit t.at.at x.of x.is in
                   omega (arith, i.within, ends_at x stack g))
@@ -460,7 +459,7 @@ module _ (e : Encoding) (abbreviations : List ℕ) (look : ℕ → Option Declar
                   )
 
                   pub ends-item : (f : Option Declaration) → whole_found abbreviations f ≡ look code → (d : Declaration) → f ≡ Some d → is_kept marks t.count.0 ≡ true
-                      → Answers items parents ends marks unit s (Item' (record {
+                      → Answers items parents ends marks unit s (Some (record {
                         start = record { 0 = t.at.at };
                         end = record { at = n / 2 };
                         depth = t.nesting.depth;
@@ -477,11 +476,11 @@ module _ (e : Encoding) (abbreviations : List ℕ) (look : ℕ → Option Declar
                             let v = w.1 stack g in
                             let x : CodedEntry t.at.at code values = there v.now v.stood in
                             let same : d ≡ x.of.declaration = whole_same abbreviations d x.of.declaration (ap (whole_found abbreviations) (sym l) ∙ k ∙ x.declared) in
-                            subst (λ (end : ℕ). Next items parents ends marks s stack (Item' (record { start = record { 0 = t.at.at }; end = record { at = end }; depth = t.nesting.depth; is_entry = true; specs = d.attributes; values = values; next = stand end (t.count.0 + 1) m })))
+                            subst (λ (end : ℕ). Next items parents ends marks s stack (Some (record { start = record { 0 = t.at.at }; end = record { at = end }; depth = t.nesting.depth; is_entry = true; specs = d.attributes; values = values; next = stand end (t.count.0 + 1) m })))
                             (sym (ends_at x v.now v.stood))
-                            (subst (λ (c : Cursor). Next items parents ends marks s stack (Item' (record { start = record { 0 = t.at.at }; end = x.of.next; depth = t.nesting.depth; is_entry = true; specs = d.attributes; values = c; next = stand x.of.next.at (t.count.0 + 1) m })))
+                            (subst (λ (c : Cursor). Next items parents ends marks s stack (Some (record { start = record { 0 = t.at.at }; end = x.of.next; depth = t.nesting.depth; is_entry = true; specs = d.attributes; values = c; next = stand x.of.next.at (t.count.0 + 1) m })))
                             x.from
-                            (subst (λ (c : Declaration). Next items parents ends marks s stack (Item' (record { start = record { 0 = t.at.at }; end = x.of.next; depth = t.nesting.depth; is_entry = true; specs = c.attributes; values = x.of.values; next = stand x.of.next.at (t.count.0 + 1) m })))
+                            (subst (λ (c : Declaration). Next items parents ends marks s stack (Some (record { start = record { 0 = t.at.at }; end = x.of.next; depth = t.nesting.depth; is_entry = true; specs = c.attributes; values = x.of.values; next = stand x.of.next.at (t.count.0 + 1) m })))
                             (sym same)
                             ((entry-item x.of x.is m (o ∙ ap (λ (c : Bool). nesting_opened c t.count.0 t.nesting) (opens x v.now v.stood)) few y).next stack g)));
                       }

@@ -4,7 +4,7 @@ use Prim.Native.Nat.{ℕ, suc, ◌+◌}
 use native.Mathlib.Omega.{arith}
 use mathlib.Core.Bool.{Bool, true, false}
 use mathlib.Core.List.{List, [], ◌∷◌, ◌++◌, append_assoc}
-use Rattle.std.specs.Prelude.{None, Option, Some}
+use Rattle.std.specs.Prelude.{None, Option, Some, Err, Ok, Result}
 use lib.ListN.{length, get_or, length-append}
 use lib.Dec.{ltb, leb}
 use Rattle.readers.proofs.Choice.{pick-either}
@@ -15,8 +15,8 @@ use Rattle.readers.specs.declared.cursor.Encoding.{Encoding}
 use Rattle.readers.proofs.Declarations.{find-plain}
 use Rattle.readers.proofs.Streams.{items-look}
 use Rattle.marking.specs.EntryReferences.{ReferencesFound, found, refused as refused_after}
-use Rattle.marking.specs.declared.root_test.Verdict.{Verdict}
-use Rattle.marking.specs.declared.root_test.Verdict.TheVariants.{Live, Dead, Refused as Failed}
+use Rattle.marking.specs.declared.addresses.Verdict.{Verdict}
+use Rattle.marking.specs.declared.addresses.Verdict.TheVariants.{Live, Dead}
 use Rattle.marking.specs.Analysis.{Sections, Rooms, EntryRow, Analysed, analysed, refused, onto, on_verdict, on_found, Reached, reached, start_of, root_of, names_of, base_of, analyse_items, on_declared, unit_analysed}
 use Rattle.marking.specs.Columns.{parents_in, pad_to}
 use Rattle.readers.specs.Stream.{entry_count}
@@ -28,11 +28,11 @@ unfoldable Rows : (List EntryRow → Type 0) → Analysed → Type 0
 Rows P (analysed rows) = P rows
 Rows P (refused n) = Unit {0}
 
-rows-verdict : (P : List EntryRow → Type 0) (v : Verdict) (k : ℕ → Analysed) → ((n : ℕ) → Rows P (k n)) → Rows P (on_verdict v k)
+rows-verdict : (P : List EntryRow → Type 0) (v : Result Verdict ℕ) (k : ℕ → Analysed) → ((n : ℕ) → Rows P (k n)) → Rows P (on_verdict v k)
 unfolding Rows on_verdict
-rows-verdict P Live k h = h 1
-rows-verdict P Dead k h = h 0
-rows-verdict P (Failed n) k h = tt
+rows-verdict P (Ok Live) k h = h 1
+rows-verdict P (Ok Dead) k h = h 0
+rows-verdict P (Err n) k h = tt
 
 rows-found : (P : List EntryRow → Type 0) (f : ReferencesFound) (k : List ℕ → Analysed) → ((names : List ℕ) → Rows P (k names)) → Rows P (on_found f k)
 unfolding Rows on_found

@@ -30,19 +30,17 @@ use Rattle.rewriting.specs.Inner.NextKept.{items_by}
 use Rattle.rewriting.specs.Inner.IndexLists.{form_list, kind_index, value_index, value_indices, ReadAs, is_absent}
 use Rattle.readers.specs.Inner.Forms.{use_list}
 use Rattle.rewriting.specs.declared.kept_items.Reading.{Reading}
-use Rattle.rewriting.specs.declared.lists.ListCount.{ListCount}
-use Rattle.rewriting.specs.declared.lists.ListCount.TheVariants.{Present, Absent}
 use Rattle.rewriting.proofs.KeptPass.KeptSteps.{items-entry, items-terminator, items-end, items-bad}
 
 -- ---- a list that is too short
 
-pub short-present : (c : ListCount) (n room : ℕ) → c ≡ Present n → ltb room n ≡ is_short c room
+pub short-present : (c : Option ℕ) (n room : ℕ) → c ≡ Some n → ltb room n ≡ is_short c room
 unfolding is_short
-short-present c n room q = sym (ap (λ (c : ListCount). is_short c room) q)
+short-present c n room q = sym (ap (λ (c : Option ℕ). is_short c room) q)
 
-pub short-absent : (c : ListCount) (room : ℕ) → c ≡ Absent → false ≡ is_short c room
+pub short-absent : (c : Option ℕ) (room : ℕ) → c ≡ None → false ≡ is_short c room
 unfolding is_short
-short-absent c room q = sym (ap (λ (c : ListCount). is_short c room) q)
+short-absent c room q = sym (ap (λ (c : Option ℕ). is_short c room) q)
 
 -- ---- one list
 

@@ -28,8 +28,6 @@ use Rattle.rewriting.specs.Inner.Written.{ListHeld}
 use Rattle.rewriting.specs.Inner.Gathering.{Filled}
 use Rattle.rewriting.specs.Inner.IndexLists.{ReadAs, TablesFound, AllRead, PassInput, is_absent, ListAnswer}
 use Rattle.rewriting.specs.declared.kept_items.Reading.{Reading}
-use Rattle.rewriting.specs.declared.lists.ListCount.{ListCount}
-use Rattle.rewriting.specs.declared.lists.ListCount.TheVariants.{Present, Absent}
 use Rattle.rewriting.proofs.KeptPass.ItemDepths.{Every, Readable}
 use Rattle.rewriting.proofs.ListPass.IndexTurns.{absent-plain, absent-named}
 
@@ -116,24 +114,24 @@ filled-short ys list n after f =
     (λ (v : T (not (leb (length ys) room))). let w : room < length ys = leb_no {a = length ys} {b = room} v in w) (either (leb (length ys) room)))
     (λ h. f.short h)
 
-pub answer-short : (o : Option (List ℕ)) (list : List ℕ) (c : ListCount) (after : List ℕ) → ListAnswer o list c after
+pub answer-short : (o : Option (List ℕ)) (list : List ℕ) (c : Option ℕ) (after : List ℕ) → ListAnswer o list c after
     → is_short c (length list / 8) ≡ ltb (length list / 8) (count_of o)
 unfolding ListAnswer is_short count_of
-answer-short None list Absent after h = sym (le-ltb (length list / 8) 0 (omega arith))
-answer-short None list (Present n) after h = absurd h
-answer-short (Some ys) list Absent after h = absurd h
-answer-short (Some ys) list (Present n) after h = filled-short ys list n after h
+answer-short None list None after h = sym (le-ltb (length list / 8) 0 (omega arith))
+answer-short None list (Some n) after h = absurd h
+answer-short (Some ys) list None after h = absurd h
+answer-short (Some ys) list (Some n) after h = filled-short ys list n after h
 
-pub answer-held : (ys list : List ℕ) (c : ListCount) (after : List ℕ) → ListAnswer (Some ys) list c after → length ys ≤ length list / 8
-    → (c ≡ Present (length ys)) × ListHeld ys after
+pub answer-held : (ys list : List ℕ) (c : Option ℕ) (after : List ℕ) → ListAnswer (Some ys) list c after → length ys ≤ length list / 8
+    → (c ≡ Some (length ys)) × ListHeld ys after
 unfolding ListAnswer
-answer-held ys list Absent after h l = absurd h
-answer-held ys list (Present n) after h l = (ap (λ (m : ℕ). Present m) (h.counted l), h.holds l)
+answer-held ys list None after h l = absurd h
+answer-held ys list (Some n) after h l = (ap (λ (m : ℕ). Some m) (h.counted l), h.holds l)
 
-pub answer-absent : (list : List ℕ) (c : ListCount) (after : List ℕ) → ListAnswer None list c after → (c ≡ Absent) × (after ≡ list)
+pub answer-absent : (list : List ℕ) (c : Option ℕ) (after : List ℕ) → ListAnswer None list c after → (c ≡ None) × (after ≡ list)
 unfolding ListAnswer
-answer-absent list Absent after h = (refl, h)
-answer-absent list (Present n) after h = absurd h
+answer-absent list None after h = (refl, h)
+answer-absent list (Some n) after h = absurd h
 
 -- ---- a list that was gathered
 
@@ -148,13 +146,13 @@ nothing-held (y ∷ ys) list after f =
     (either (leb (length (y ∷ ys)) (length list / 8))))
 
 module _ (ys list₀ : List ℕ) (n : ℕ) (list : List ℕ) (z : list₀ ≡ zeros (length list)) (f : Filled ys list₀ n list) (a b : Bool) (q : b ≡ a) where
-  pub settle-absent : b ≡ true → (after : List ℕ) → after ≡ zeros (length list) → ListAnswer (pick a None (Some ys)) list₀ Absent after
+  pub settle-absent : b ≡ true → (after : List ℕ) → after ≡ zeros (length list) → ListAnswer (pick a None (Some ys)) list₀ None after
   unfolding ListAnswer pick
-  settle-absent h after e = subst (λ (a : Bool). ListAnswer (pick a None (Some ys)) list₀ Absent after) (sym h ∙ q) (e ∙ sym z)
+  settle-absent h after e = subst (λ (a : Bool). ListAnswer (pick a None (Some ys)) list₀ None after) (sym h ∙ q) (e ∙ sym z)
 
-  pub settle-empty : b ≡ true → n ≤ 0 → ListAnswer (pick a None (Some ys)) list₀ Absent list
+  pub settle-empty : b ≡ true → n ≤ 0 → ListAnswer (pick a None (Some ys)) list₀ None list
   settle-empty h l = settle-absent h list (nothing-held ys list₀ list (subst (λ (n : ℕ). Filled ys list₀ n list) (let e : n ≡ 0 = omega arith in e) f))
 
-  pub settle-present : b ≡ false → ListAnswer (pick a None (Some ys)) list₀ (Present n) list
+  pub settle-present : b ≡ false → ListAnswer (pick a None (Some ys)) list₀ (Some n) list
   unfolding ListAnswer pick
-  settle-present h = subst (λ (a : Bool). ListAnswer (pick a None (Some ys)) list₀ (Present n) list) (sym h ∙ q) f
+  settle-present h = subst (λ (a : Bool). ListAnswer (pick a None (Some ys)) list₀ (Some n) list) (sym h ∙ q) f

@@ -23,10 +23,8 @@ use Rattle.rewriting.specs.Inner.Emission.{Lent}
 use Rattle.rewriting.specs.Outputs.{list_count, list_or, ranges_in, locations_in, strings_in}
 use Rattle.rewriting.specs.Inner.Leaving.{list_room, ListsAnswer}
 use Rattle.rewriting.specs.declared.kept_items.Reading.{Reading}
-use Rattle.rewriting.specs.declared.lists.ListCount.{ListCount}
-use Rattle.rewriting.specs.declared.lists.ListCount.TheVariants.{Absent}
 use Rattle.rewriting.specs.declared.collect.Listed.{Listed}
-use Rattle.rewriting.specs.declared.collect.Listed.TheVariants.{Made, Short}
+use Rattle.rewriting.specs.Refusals.{listed}
 use Rattle.rewriting.proofs.ListPass.Tables.{length_run}
 use Rattle.rewriting.proofs.ListPass.Held.{list-none}
 use Rattle.rewriting.proofs.ListPass.ListAnswers.{items-are, ranges-are, locations-are, strings-are, no-ranges, no-locations, no-strings, answer-short, answer-held, answer-absent}
@@ -52,7 +50,7 @@ no_third false b c q = refl
 
 -- ---- one list
 
-module _ (o : Option (List ℕ)) (list : List ℕ) (c : ListCount) (after : List ℕ) (h : ListAnswer o list c after) (l : length after ≡ length list) where
+module _ (o : Option (List ℕ)) (list : List ℕ) (c : Option ℕ) (after : List ℕ) (h : ListAnswer o list c after) (l : length after ≡ length list) where
   module _ (b : Bool) (q : b ≡ is_short c (length after / 8)) where
     test : b ≡ ltb (length list / 8) (count_of o)
     test = q ∙ ap (λ (n : ℕ). is_short c (n / 8)) l ∙ answer-short o list c after h
@@ -63,12 +61,12 @@ module _ (o : Option (List ℕ)) (list : List ℕ) (c : ListCount) (after : List
     pub has_room : b ≡ false → leb (count_of o) (length list / 8) ≡ true
     has_room t = le-leb (count_of o) (length list / 8) (ltb-false (length list / 8) (count_of o) (sym test ∙ t))
 
-pub record MadeList (o : Option (List ℕ)) (n : ℕ) (c : ListCount) (after : List ℕ) : Type 0 where
+pub record MadeList (o : Option (List ℕ)) (n : ℕ) (c : Option ℕ) (after : List ℕ) : Type 0 where
   pub counted : c ≡ list_count o
   pub lent : Lent o after (list_count o)
   pub left : after ≡ list_or n o
 
-made_list : (o : Option (List ℕ)) (list : List ℕ) (c : ListCount) (after : List ℕ) → ListAnswer o list c after → length after ≡ length list → list ≡ zeros (length list)
+made_list : (o : Option (List ℕ)) (list : List ℕ) (c : Option ℕ) (after : List ℕ) → ListAnswer o list c after → length after ≡ length list → list ≡ zeros (length list)
     → leb (count_of o) (length list / 8) ≡ true → MadeList o (length list) c after
 unfolding list_count Lent list_or count_of pad_to
 made_list None list c after h l z t = let p = answer-absent list c after h in record { counted = p.0; lent = tt; left = p.1 ∙ z }
@@ -90,27 +88,27 @@ module _ (t : Bool) (r : Reading) (s table unit parents ends marks : List ℕ) (
   items-here x u p f = ap (λ (n : ℕ). items_by r s table unit n) f ∙ items-are x u r s table unit p.read p.found
 
   -- what is known of one
-  abbrev Answered : (Lists → Option (List ℕ)) → List ℕ → ListCount → List ℕ → Type 0
+  abbrev Answered : (Lists → Option (List ℕ)) → List ℕ → Option ℕ → List ℕ → Type 0
   Answered field list c after = (x : Sections) (u : Unit') → PassInput x u r s table unit parents ends marks first → first ≡ u.header.first.0
       → list ≡ zeros (length list) → ListAnswer (field (lists_of x u t (kept_from marks 0 [] (items_in x u)))) list c after
 
   -- it is absent with type units
   module _ (h : t ≡ true) (list : List ℕ) where
-    absent : (o : Option (List ℕ)) → o ≡ None → ListAnswer o list Absent list
+    absent : (o : Option (List ℕ)) → o ≡ None → ListAnswer o list None list
     unfolding ListAnswer
-    absent o e = subst (λ (o : Option (List ℕ)). ListAnswer o list Absent list) (sym e) refl
+    absent o e = subst (λ (o : Option (List ℕ)). ListAnswer o list None list) (sym e) refl
 
-    pub type-ranges : Answered ranges_in list Absent list
+    pub type-ranges : Answered ranges_in list None list
     type-ranges x u p f z = absent _ (no-ranges x u t _ h)
 
-    pub type-locations : Answered locations_in list Absent list
+    pub type-locations : Answered locations_in list None list
     type-locations x u p f z = absent _ (no-locations x u t _ h)
 
-    pub type-strings : Answered strings_in list Absent list
+    pub type-strings : Answered strings_in list None list
     type-strings x u p f z = absent _ (no-strings x u t _ h)
 
   -- it was gathered and settled
-  module _ (h : t ≡ false) (list : List ℕ) (n : ℕ) (mid : List ℕ) (l : length mid ≡ length list) (c : ListCount) (after : List ℕ) where
+  module _ (h : t ≡ false) (list : List ℕ) (n : ℕ) (mid : List ℕ) (l : length mid ≡ length list) (c : Option ℕ) (after : List ℕ) where
     settled : (k name : ℕ) → Listing k r s table unit parents ends marks first list n mid → Settles r s table unit first name n mid c after
         → (x : Sections) (u : Unit') → PassInput x u r s table unit parents ends marks first → first ≡ u.header.first.0 → list ≡ zeros (length list)
         → ListAnswer (list_of x u (is_absent x u name (items_in x u)) k (kept_from marks 0 [] (items_in x u))) list c after
@@ -128,12 +126,12 @@ module _ (t : Bool) (r : Reading) (s table unit parents ends marks : List ℕ) (
     pub settled-strings : Listing 2 r s table unit parents ends marks first list n mid → Settles r s table unit first 0 n mid c after → Answered strings_in list c after
     settled-strings g s x u p f z = subst (λ (o : Option (List ℕ)). ListAnswer o list c after) (strings-are x u t _ h) (settled 2 0 g s x u p f z)
 
-  abbrev Wanted : List ℕ → List ℕ → List ℕ → Listed → List ℕ → List ℕ → List ℕ → Type 0
+  abbrev Wanted : List ℕ → List ℕ → List ℕ → Option Listed → List ℕ → List ℕ → List ℕ → Type 0
   Wanted ranges locations strings c ranges' locations' strings' = (x : Sections) (u : Unit') → PassInput x u r s table unit parents ends marks first → first ≡ u.header.first.0
       → ranges ≡ zeros (length ranges) → locations ≡ zeros (length locations) → strings ≡ zeros (length strings)
       → ListsAnswer (lists_of x u t (kept_from marks 0 [] (items_in x u))) (length ranges) (length locations) (length strings) c ranges' locations' strings'
 
-  short-lists : (l : Lists) (ranges locations strings : ℕ) (ranges' locations' strings' : List ℕ) → lists_fit (list_room ranges locations strings) l ≡ false → ListsAnswer l ranges locations strings Short ranges' locations' strings'
+  short-lists : (l : Lists) (ranges locations strings : ℕ) (ranges' locations' strings' : List ℕ) → lists_fit (list_room ranges locations strings) l ≡ false → ListsAnswer l ranges locations strings None ranges' locations' strings'
   short-lists l ranges locations strings ranges' locations' strings' q =
       let no : lists_fit (list_room ranges locations strings) l ≡ true → ⊥ = (λ e. false≢true (sym q ∙ e)) in
       record { short = λ _. refl; made = λ e. absurd (no e); lent = λ e. absurd (no e); ranges_left = λ e. absurd (no e); locations_left = λ e. absurd (no e); strings_left = λ e. absurd (no e) }
@@ -142,32 +140,32 @@ module _ (t : Bool) (r : Reading) (s table unit parents ends marks : List ℕ) (
   lists x u = lists_of x u t (kept_from marks 0 [] (items_in x u))
 
   module _ (ranges locations strings ranges' locations' strings' : List ℕ) where
-    pub ranges-short : (c : ListCount) → Answered ranges_in ranges c ranges' → length ranges' ≡ length ranges → (b : Bool) → b ≡ is_short c (length ranges' / 8) → b ≡ true
-        → Wanted ranges locations strings Short ranges' locations' strings'
+    pub ranges-short : (c : Option ℕ) → Answered ranges_in ranges c ranges' → length ranges' ≡ length ranges → (b : Bool) → b ≡ is_short c (length ranges' / 8) → b ≡ true
+        → Wanted ranges locations strings None ranges' locations' strings'
     unfolding lists_fit
     ranges-short c k l b q e x u p f z y w =
         short-lists (lists x u) (length ranges) (length locations) (length strings) ranges' locations' strings'
         (no-first _ _ _ (too_short (lists x u).ranges ranges c ranges' (k x u p f z) l b q e))
 
-    pub locations-short : (c : ListCount) → Answered locations_in locations c locations' → length locations' ≡ length locations → (b : Bool) → b ≡ is_short c (length locations' / 8) → b ≡ true
-        → Wanted ranges locations strings Short ranges' locations' strings'
+    pub locations-short : (c : Option ℕ) → Answered locations_in locations c locations' → length locations' ≡ length locations → (b : Bool) → b ≡ is_short c (length locations' / 8) → b ≡ true
+        → Wanted ranges locations strings None ranges' locations' strings'
     unfolding lists_fit
     locations-short c k l b q e x u p f z y w =
         short-lists (lists x u) (length ranges) (length locations) (length strings) ranges' locations' strings'
         (no_second _ _ _ (too_short (lists x u).locations locations c locations' (k x u p f y) l b q e))
 
-    pub strings-short : (c : ListCount) → Answered strings_in strings c strings' → length strings' ≡ length strings → (b : Bool) → b ≡ is_short c (length strings' / 8) → b ≡ true
-        → Wanted ranges locations strings Short ranges' locations' strings'
+    pub strings-short : (c : Option ℕ) → Answered strings_in strings c strings' → length strings' ≡ length strings → (b : Bool) → b ≡ is_short c (length strings' / 8) → b ≡ true
+        → Wanted ranges locations strings None ranges' locations' strings'
     unfolding lists_fit
     strings-short c k l b q e x u p f z y w =
         short-lists (lists x u) (length ranges) (length locations) (length strings) ranges' locations' strings'
         (no_third _ _ _ (too_short (lists x u).strings strings c strings' (k x u p f w) l b q e))
 
-    pub lists-made : (c₁ c₂ c₃ : ListCount)
+    pub lists-made : (c₁ c₂ c₃ : Option ℕ)
         → Answered ranges_in ranges c₁ ranges' → Answered locations_in locations c₂ locations' → Answered strings_in strings c₃ strings'
         → length ranges' ≡ length ranges → length locations' ≡ length locations → length strings' ≡ length strings
         → false ≡ is_short c₁ (length ranges' / 8) → false ≡ is_short c₂ (length locations' / 8) → false ≡ is_short c₃ (length strings' / 8)
-        → Wanted ranges locations strings (Made c₁ c₂ c₃) ranges' locations' strings'
+        → Wanted ranges locations strings (listed c₁ c₂ c₃) ranges' locations' strings'
     unfolding lists_fit ◌and◌
     lists-made c₁ c₂ c₃ k₁ k₂ k₃ l₁ l₂ l₃ q₁ q₂ q₃ x u p f z y w =
         let l : Lists = lists x u in
@@ -183,7 +181,7 @@ module _ (t : Bool) (r : Reading) (s table unit parents ends marks : List ℕ) (
         let yes : lists_fit (list_room (length ranges) (length locations) (length strings)) l ≡ true = all_three _ _ _ h₁ h₂ h₃ in
         record {
           short = λ e. absurd (false≢true (sym e ∙ yes));
-          made = λ _. ap (λ (c : ListCount). Made c c₂ c₃) m₁.counted ∙ ap (λ (c : ListCount). Made (list_count l.ranges) c c₃) m₂.counted ∙ ap (λ (c : ListCount). Made (list_count l.ranges) (list_count l.locations) c) m₃.counted;
+          made = λ _. ap (λ (c : Option ℕ). listed c c₂ c₃) m₁.counted ∙ ap (λ (c : Option ℕ). listed (list_count l.ranges) c c₃) m₂.counted ∙ ap (λ (c : Option ℕ). listed (list_count l.ranges) (list_count l.locations) c) m₃.counted;
           lent = λ _. record { those_ranges = m₁.lent; those_locations = m₂.lent; those_strings = m₃.lent };
           ranges_left = λ _. m₁.left;
           locations_left = λ _. m₂.left;
@@ -196,8 +194,8 @@ module _ (t : Bool) (r : Reading) (s table unit parents ends marks : List ℕ) (
         all_three false b c p q r = absurd (false≢true p)
 
   -- with type units
-  pub type-lists : t ≡ true → (ranges locations strings : List ℕ) → Wanted ranges locations strings (Made Absent Absent Absent) ranges locations strings
+  pub type-lists : t ≡ true → (ranges locations strings : List ℕ) → Wanted ranges locations strings (listed None None None) ranges locations strings
   unfolding is_short
   type-lists h ranges locations strings =
-      lists-made ranges locations strings ranges locations strings Absent Absent Absent
+      lists-made ranges locations strings ranges locations strings None None None
       (type-ranges h ranges) (type-locations h locations) (type-strings h strings) refl refl refl refl refl refl

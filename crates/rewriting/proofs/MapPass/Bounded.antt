@@ -17,7 +17,6 @@ use Rattle.rewriting.specs.Written.{number_size, place_size, number_at}
 use Rattle.rewriting.specs.Inner.Written.{MapHeld, as_mapped}
 use Rattle.rewriting.specs.Inner.Bounds.{AsDeep, BoundsFrom, Bounds}
 use Rattle.readers.specs.declared.offsets.UnitOffset.{UnitOffset}
-use Rattle.rewriting.specs.declared.map.Mapped.TheVariants.{To, Nothing}
 use Rattle.rewriting.proofs.ListPass.Ranks.{rank-above}
 use Rattle.rewriting.proofs.MapPass.Places.{nowhere, length-olds, old_of, depth-held, new-held, first-skip, first-here, first_on}
 
@@ -88,7 +87,7 @@ module _ (map : List ℕ) (places : ℕ) (bounds : List ℕ) (old depth i : ℕ)
 
   module _ (d : ℕ) (l : i < places) (is-depth : i < length map / place_size → d ≡ number_at number_size map (place_size * i + 2 * number_size)) where
     pub seeking-here : (n : UnitOffset) → d ≤ depth → (i < length map / place_size → n.0 ≡ number_at number_size map (place_size * i + number_size)) → (ps : List Place) → MapHeld ps map → places ≡ length ps → Bounds ps bounds
-        → To n ≡ as_mapped (sibling_of ps depth old)
+        → Some n ≡ as_mapped (sibling_of ps depth old)
     unfolding as_mapped
     seeking-here n b f ps h e w =
         let k : d ≡ (get_or ps i nowhere).depth = depth-held ps map h i (omega arith) d is-depth in
@@ -106,7 +105,7 @@ module _ (map : List ℕ) (places : ℕ) (bounds : List ℕ) (old depth i : ℕ)
               ((p.seek ps h e w).0 ∙ first_on ps depth old i (omega arith) (at_or_after ps depth old h.ascending i r i (omega arith) (omega arith)) (omega arith), omega arith);
         }
 
-  pub seeking-done : places ≤ i → (ps : List Place) → MapHeld ps map → places ≡ length ps → Bounds ps bounds → Nothing ≡ as_mapped (sibling_of ps depth old)
+  pub seeking-done : places ≤ i → (ps : List Place) → MapHeld ps map → places ≡ length ps → Bounds ps bounds → None ≡ as_mapped (sibling_of ps depth old)
   unfolding as_mapped first_from
   seeking-done l ps h e w =
       let q : sibling_of ps depth old ≡ None = (p.seek ps h e w).0 ∙ ap (λ x. first_from x depth old) (drop_of_length-le ps {i = i} (omega arith)) in rw q

@@ -17,8 +17,7 @@ use Rattle.rewriting.specs.Inner.Measures.{ColumnsHeld, kept_of_unit}
 use Rattle.rewriting.specs.Inner.MapFilled.{Fills}
 use Rattle.rewriting.specs.declared.kept_items.PassPosition.{PassPosition}
 use Rattle.rewriting.specs.declared.kept_items.KeptItem.{KeptItem}
-use Rattle.rewriting.specs.declared.kept_items.KeptStep.{KeptStep}
-use Rattle.rewriting.specs.declared.kept_items.KeptStep.TheVariants.{Item as Item', End}
+use Rattle.std.specs.Prelude.{None, Option, Some}
 use Rattle.marking.proofs.Members.{nothing-in}
 use Rattle.rewriting.proofs.KeptPass.KeptSteps.{stand}
 use Rattle.rewriting.proofs.KeptPass.KeptPasses.{shown-size, shown-offset, next-forward, next-item, next-end, stood-start, kept-start, Measuring, measuring-start, measuring-more}
@@ -93,8 +92,8 @@ module _ (items : ℕ → List Item) (parents ends marks unit : List ℕ) (first
     pub placing-size : length map ≡ length map₀
     placing-size = f.same
 
-    module _ (r : KeptStep) (a : Answers items parents ends marks unit s r) where
-      end-held : r ≡ End → ColumnsHeld items parents ends first → place_size * length (kept_of_unit items marks first) ≤ length map₀ → map₀ ≡ zeros (length map₀)
+    module _ (r : Option KeptItem) (a : Answers items parents ends marks unit s r) where
+      end-held : r ≡ None → ColumnsHeld items parents ends first → place_size * length (kept_of_unit items marks first) ≤ length map₀ → map₀ ≡ zeros (length map₀)
           → NumbersHeld number_size (columns (places_from first (kept_of_unit items marks first))) map
       unfolding places_from
       end-held q h m z =
@@ -104,7 +103,7 @@ module _ (items : ℕ → List Item) (parents ends marks unit : List ℕ) (first
           (sym (d.whole ∙ ap (λ (k : List NestedItem). d.done ++ places_from new k) e ∙ append-nil d.done))
           d.held
 
-      pub placing-end : r ≡ End → Fills items unit parents ends marks first map₀ map
+      pub placing-end : r ≡ None → Fills items unit parents ends marks first map₀ map
       placing-end q =
           record {
             holds = λ h m z. end-held q h m z;
@@ -113,7 +112,7 @@ module _ (items : ℕ → List Item) (parents ends marks unit : List ℕ) (first
                 ∙ ap (λ (n : ℕ). map_bytes (places_from first (kept_of_unit items marks first)) ++ zeros (n - place_size * length (kept_of_unit items marks first))) f.same;
           }
 
-      module _ (x : KeptItem) (q : r ≡ Item' x) where
+      module _ (x : KeptItem) (q : r ≡ Some x) where
         pub placing-more : (map' : List ℕ) → length map' ≡ length map → Puts map i x.start.0 new x.depth map' → Placing map' x.next (i + 1) (new + (x.end.at - x.start.0))
         unfolding places_from
         placing-more map' l p =

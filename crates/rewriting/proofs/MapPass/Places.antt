@@ -23,7 +23,6 @@ use Rattle.rewriting.specs.Places.{Place, new_of, first_from, or_else, sibling_o
 use Rattle.rewriting.specs.Written.{number_size, place_size, number_at, columns, old_at, new_at, depth_at, halved, found_at, looked_up}
 use Rattle.rewriting.specs.Inner.Written.{NumbersHeld, MapHeld, place, with_place, as_mapped}
 use Rattle.readers.specs.declared.offsets.UnitOffset.{UnitOffset}
-use Rattle.rewriting.specs.declared.map.Mapped.TheVariants.{To, Nothing}
 use Rattle.rewriting.proofs.ListPass.Tables.{row-there, first-there, held_at, held_more, length-put}
 use Rattle.rewriting.proofs.ListPass.Ranks.{rank_is, rank_most, halved-rank}
 
@@ -168,15 +167,15 @@ module _ (ps : List Place) (map : List ℕ) (places old i o : ℕ) (h : MapHeld 
       new-absent ps old (λ j b k.
       let s : rank_in (old_offsets ps) old ≡ j = rank_is (old_offsets ps) old j h.ascending (omega (arith, length-olds ps)) (old_of ps j ∙ k) in omega arith)
 
-pub sibling-to : (ps : List Place) (depth old : ℕ) (n : UnitOffset) → new_of ps old ≡ Some n.0 → To n ≡ as_mapped (sibling_of ps depth old)
+pub sibling-to : (ps : List Place) (depth old : ℕ) (n : UnitOffset) → new_of ps old ≡ Some n.0 → Some n ≡ as_mapped (sibling_of ps depth old)
 unfolding as_mapped sibling_of or_else
 sibling-to ps depth old n e = rw e
 
-pub moved_to : (ps : List Place) (old : ℕ) (n : UnitOffset) → new_of ps old ≡ Some n.0 → To n ≡ as_mapped (new_of ps old)
+pub moved_to : (ps : List Place) (old : ℕ) (n : UnitOffset) → new_of ps old ≡ Some n.0 → Some n ≡ as_mapped (new_of ps old)
 unfolding as_mapped
 moved_to ps old n e = rw e
 
-pub moved_none : (ps : List Place) (old : ℕ) → new_of ps old ≡ None → Nothing ≡ as_mapped (new_of ps old)
+pub moved_none : (ps : List Place) (old : ℕ) → new_of ps old ≡ None → None ≡ as_mapped (new_of ps old)
 unfolding as_mapped
 moved_none ps old e = rw e
 
@@ -214,28 +213,28 @@ pub has_there : (o a v : ℕ) → o ≡ a → eqb o v ≡ eqb a v
 has_there o a v e = ap (λ n. eqb n v) e
 
 module _ (map : List ℕ) (places i v : ℕ) where
-  found-there : (n : UnitOffset) → i < places → old_at map i ≡ v → n.0 ≡ new_at map i → To n ≡ found_at map places v i
+  found-there : (n : UnitOffset) → i < places → old_at map i ≡ v → n.0 ≡ new_at map i → Some n ≡ found_at map places v i
   unfolding found_at
-  found-there n l e f = sym (pick_yes _ _ _ (yes_ltb {a = i} {b = places} l) ∙ pick_yes _ _ _ (yes_eqb {a = old_at map i} {b = v} e) ∙ ap (λ k. To (record { 0 = k })) (sym f))
+  found-there n l e f = sym (pick_yes _ _ _ (yes_ltb {a = i} {b = places} l) ∙ pick_yes _ _ _ (yes_eqb {a = old_at map i} {b = v} e) ∙ ap (λ k. Some (record { 0 = k })) (sym f))
 
-  found-other : i < places → (old_at map i ≡ v → ⊥) → Nothing ≡ found_at map places v i
+  found-other : i < places → (old_at map i ≡ v → ⊥) → None ≡ found_at map places v i
   unfolding found_at
   found-other l e = sym (pick_yes _ _ _ (yes_ltb {a = i} {b = places} l) ∙ pick_no _ _ _ (no_eqb {a = old_at map i} {b = v} e))
 
-  found-beyond : places ≤ i → Nothing ≡ found_at map places v i
+  found-beyond : places ≤ i → None ≡ found_at map places v i
   unfolding found_at
   found-beyond l = sym (pick_no _ _ _ (no_ltb {a = i} {b = places} l))
 
 module _ (map : List ℕ) (places i v : ℕ) (is : i ≡ halved places (old_at map) v 0 places) where
-  pub looked-there : (n : UnitOffset) → i < places → old_at map i ≡ v → n.0 ≡ new_at map i → To n ≡ looked_up map places v
+  pub looked-there : (n : UnitOffset) → i < places → old_at map i ≡ v → n.0 ≡ new_at map i → Some n ≡ looked_up map places v
   unfolding looked_up
   looked-there n l e f = found-there map places i v n l e f ∙ ap (found_at map places v) is
 
-  pub looked-other : i < places → (old_at map i ≡ v → ⊥) → Nothing ≡ looked_up map places v
+  pub looked-other : i < places → (old_at map i ≡ v → ⊥) → None ≡ looked_up map places v
   unfolding looked_up
   looked-other l e = found-other map places i v l e ∙ ap (found_at map places v) is
 
-  pub looked-beyond : places ≤ i → Nothing ≡ looked_up map places v
+  pub looked-beyond : places ≤ i → None ≡ looked_up map places v
   unfolding looked_up
   looked-beyond l = found-beyond map places i v l ∙ ap (found_at map places v) is
 

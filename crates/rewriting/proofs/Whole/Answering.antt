@@ -17,13 +17,12 @@ use Rattle.marking.specs.Columns.{column, parents_in, index_after, least, rooms_
 use Rattle.marking.specs.Marks.{kept_count}
 use Rattle.marking.specs.Resolution.{marks_in, unit_marks}
 use Rattle.marking.specs.declared.units.UnitMarks.{UnitMarks}
-use Rattle.marking.specs.declared.units.UnitMarks.TheVariants.{Marked, Refused as NotMarked}
+use Rattle.marking.specs.Resolution.{marked}
 use Rattle.rewriting.specs.Rewriting.{Room, unit_of, Collected, untouched, rewritten, refused, no_lists, rows_collected, analysed_collected, declared_collected, header_collected, collect_of}
-use Rattle.rewriting.specs.Outputs.{room_by, answer_for, map_for, output_for, list_or, list_for, ranges_in, locations_in, strings_in}
+use Rattle.rewriting.specs.Outputs.{Answer, room_by, answer_for, map_for, output_for, list_or, list_for, ranges_in, locations_in, strings_in}
 use Rattle.rewriting.specs.Inner.Leaving.{Accepts, Answers, left_by, header_task, task_of, MarkedTables, Tabled, Blank, marked_of}
 use Rattle.rewriting.specs.declared.collect.Counts.{Counts}
-use Rattle.rewriting.specs.declared.collect.Collected.{Collected as Answer}
-use Rattle.rewriting.specs.declared.collect.Collected.TheVariants.{Untouched, Rewritten, Refused}
+use Rattle.rewriting.specs.declared.collect.Collected.TheVariants.{Untouched, Rewritten}
 use Rattle.rewriting.specs.declared.collect.Task.{Task}
 use Rattle.rewriting.specs.declared.collect.Task.TheVariants.{Done, Rewrite}
 use Rattle.marking.proofs.ListedHeaders.{unit-listed}
@@ -35,15 +34,15 @@ pub cleared : (n m : ℕ) (s : List ℕ) → s ≡ zeros n → n ≡ m → s ≡
 cleared n m s p q = p ∙ ap (λ (k : ℕ). zeros k) q
 
 module _ (r : Answer) where
-  pub left-untouched : (k : Counts) → r ≡ Untouched k → (s : List ℕ) → s ≡ left_by r s
+  pub left-untouched : (k : Counts) → r ≡ Ok (Ok (Untouched k)) → (s : List ℕ) → s ≡ left_by r s
   unfolding left_by
   left-untouched k q s = sym (ap (λ (y : Answer). left_by y s) q)
 
-  pub left-rewritten : (k : Counts) → r ≡ Rewritten k → (s : List ℕ) → s ≡ left_by r s
+  pub left-rewritten : (k : Counts) → r ≡ Ok (Ok (Rewritten k)) → (s : List ℕ) → s ≡ left_by r s
   unfolding left_by
   left-rewritten k q s = sym (ap (λ (y : Answer). left_by y s) q)
 
-  pub left-refused : (k : ℕ) → r ≡ Refused k → (s s' : List ℕ) → s' ≡ zeros (length s) → s' ≡ left_by r s
+  pub left-refused : (k : ℕ) → r ≡ Err k → (s s' : List ℕ) → s' ≡ zeros (length s) → s' ≡ left_by r s
   unfolding left_by
   left-refused k q s s' z = z ∙ sym (ap (λ (y : Answer). left_by y s) q)
 
@@ -72,7 +71,7 @@ outputs-left c r m rs ls ss o map ranges locations strings out a em er el es eo 
 -- ---- the parts
 
 module _ (c : Collected) (r : Answer) (map ranges locations strings out : ℕ) (map' ranges' locations' strings' out' : List ℕ) where
-  pub refused-answers : (k : ℕ) → c ≡ refused k → r ≡ Refused k → Answers c r map ranges locations strings out map' ranges' locations' strings' out'
+  pub refused-answers : (k : ℕ) → c ≡ refused k → r ≡ Err k → Answers c r map ranges locations strings out map' ranges' locations' strings' out'
   unfolding answer_for Accepts
   refused-answers k h p =
       let no : Accepts c → ⊥ = (λ a. subst Accepts h a) in
@@ -100,7 +99,7 @@ module _ (c : Collected) (r : Answer) (map ranges locations strings out : ℕ) (
 
 -- ---- the answer by the analysis
 
-marks-refused : (a : Analysed) (k : ℕ) → unit_marks a ≡ NotMarked k → a ≡ not_analysed k
+marks-refused : (a : Analysed) (k : ℕ) → unit_marks a ≡ Err k → a ≡ not_analysed k
 unfolding unit_marks
 marks-refused (analysed rows) k q = let z : ◌≡◌ {A = ℕ} 0 1 = cc in absurd (omega arith)
 marks-refused (not_analysed n) k q = let z : n ≡ k = cc in ap (λ (m : ℕ). not_analysed m) z
@@ -111,7 +110,7 @@ record Counted (a : Analysed) (entries kept : ℕ) : Type 0 where
   pub entries_are : entries ≡ length rows
   pub kept_are : kept ≡ kept_count (marks_in rows)
 
-marks-counted : (a : Analysed) (entries kept : ℕ) → unit_marks a ≡ Marked entries kept → Counted a entries kept
+marks-counted : (a : Analysed) (entries kept : ℕ) → unit_marks a ≡ marked entries kept → Counted a entries kept
 unfolding unit_marks
 marks-counted (analysed rows) entries kept q = record { rows = rows; is = refl; entries_are = cc; kept_are = cc }
 marks-counted (not_analysed n) entries kept q = let z : ◌≡◌ {A = ℕ} 0 1 = cc in absurd (omega arith)
@@ -170,11 +169,11 @@ module _ (x : Sections) (room : Room) (t : Bool) (section : List ℕ) where
       (λ k e. let z : not_analysed n ≡ not_analysed k = sym a ∙ e in let w : n ≡ k = cc in ap (λ (m : ℕ). refused m) w, λ e. absurd (none-analysed [] n (sym a ∙ e)))
   by-header (Ok (Some h)) q = by-declared h q (abbreviations_of x.abbreviations h.abbreviations) refl
 
-  pub collected-refused : (k : ℕ) → unit_marks (analysis_of x section tables) ≡ NotMarked k → collect_of x room t section ≡ refused k
+  pub collected-refused : (k : ℕ) → unit_marks (analysis_of x section tables) ≡ Err k → collect_of x room t section ≡ refused k
   unfolding collect_of
   collected-refused k q = (by-header (header_by x section) refl).0 k (marks-refused (analysis_of x section tables) k q)
 
-  pub collected-none : (entries kept : ℕ) → unit_marks (analysis_of x section tables) ≡ Marked entries kept → entries ≡ 0 → collect_of x room t section ≡ untouched 0 no_lists
+  pub collected-none : (entries kept : ℕ) → unit_marks (analysis_of x section tables) ≡ marked entries kept → entries ≡ 0 → collect_of x room t section ≡ untouched 0 no_lists
   unfolding collect_of
   collected-none entries kept q z =
       let w : Counted (analysis_of x section tables) entries kept = marks-counted (analysis_of x section tables) entries kept q in
@@ -215,7 +214,7 @@ module _ (x : Sections) (room : Room) (t : Bool) (section : List ℕ) where
             ∙ of-rows h ds w.rows (λ e. n (w.entries_are ∙ sym e));
       }
 
-  pub marking : (h : UnitHeader) → header_by x section ≡ Ok (Some h) → (entries kept : ℕ) → unit_marks (analysis_of x section tables) ≡ Marked entries kept → (entries ≡ 0 → ⊥) → Marking h entries kept
+  pub marking : (h : UnitHeader) → header_by x section ≡ Ok (Some h) → (entries kept : ℕ) → unit_marks (analysis_of x section tables) ≡ marked entries kept → (entries ≡ 0 → ⊥) → Marking h entries kept
   marking h q entries kept m n =
       marking-declared h q entries kept (marks-counted (analysis_of x section tables) entries kept m) n (abbreviations_of x.abbreviations h.abbreviations) refl
 
@@ -238,16 +237,16 @@ ends-enough marks pairs offsets parents roots ends targets =
 -- ---- by the tables that marking leaves
 
 -- what is to be done, by the marks and the header
-pub task-refused : (o : Result (Option UnitHeader) ℕ) (m : UnitMarks) (k : ℕ) → m ≡ NotMarked k → Done (Refused k) ≡ task_of o m
+pub task-refused : (o : Result (Option UnitHeader) ℕ) (m : Result UnitMarks ℕ) (k : ℕ) → m ≡ Err k → Done (Err k) ≡ task_of o m
 unfolding task_of
 task-refused o m k q = sym (ap (task_of o) q)
 
-pub task-none : (o : Result (Option UnitHeader) ℕ) (m : UnitMarks) (n k : ℕ) (a : Answer) → m ≡ Marked n k → n ≡ 0 → a ≡ answer_for (untouched 0 no_lists) → Done a ≡ task_of o m
+pub task-none : (o : Result (Option UnitHeader) ℕ) (m : Result UnitMarks ℕ) (n k : ℕ) (a : Answer) → m ≡ marked n k → n ≡ 0 → a ≡ answer_for (untouched 0 no_lists) → Done a ≡ task_of o m
 unfolding task_of
 task-none o m n k a q z e =
     ap (λ (b : Answer). Done b) e ∙ sym (ap (task_of o) q ∙ pick_yes (eqb n 0) _ _ (yes_eqb {a = n} {b = 0} z))
 
-pub task-some : (o : Result (Option UnitHeader) ℕ) (m : UnitMarks) (n k : ℕ) (t : Task) → m ≡ Marked n k → (n ≡ 0 → ⊥) → t ≡ header_task o n k → t ≡ task_of o m
+pub task-some : (o : Result (Option UnitHeader) ℕ) (m : Result UnitMarks ℕ) (n k : ℕ) (t : Task) → m ≡ marked n k → (n ≡ 0 → ⊥) → t ≡ header_task o n k → t ≡ task_of o m
 unfolding task_of
 task-some o m n k t q z e = e ∙ sym (ap (task_of o) q ∙ pick_no (eqb n 0) _ _ (no_eqb {a = n} {b = 0} z))
 
@@ -255,7 +254,7 @@ pub task-empty : (o : Result (Option UnitHeader) ℕ) (n k : ℕ) (a : Answer) �
 unfolding header_task
 task-empty o n k a q e = ap (λ (b : Answer). Done b) e ∙ sym (ap (λ (h : Result (Option UnitHeader) ℕ). header_task h n k) q)
 
-pub task-no-header : (o : Result (Option UnitHeader) ℕ) (n k j : ℕ) → o ≡ Err j → Done (Refused j) ≡ header_task o n k
+pub task-no-header : (o : Result (Option UnitHeader) ℕ) (n k j : ℕ) → o ≡ Err j → Done (Err j) ≡ header_task o n k
 unfolding header_task
 task-no-header o n k j q = sym (ap (λ (h : Result (Option UnitHeader) ℕ). header_task h n k) q)
 
@@ -264,18 +263,18 @@ unfolding header_task
 task-header o n k h q = sym (ap (λ (h : Result (Option UnitHeader) ℕ). header_task h n k) q)
 
 -- what is to be done is to rewrite a unit
-task-rewrite : (o : Result (Option UnitHeader) ℕ) (m : UnitMarks) (h : UnitHeader) (entries kept : ℕ) → task_of o m ≡ Rewrite h entries kept
-    → (o ≡ Ok (Some h)) × (m ≡ Marked entries kept) × (entries ≡ 0 → ⊥)
+task-rewrite : (o : Result (Option UnitHeader) ℕ) (m : Result UnitMarks ℕ) (h : UnitHeader) (entries kept : ℕ) → task_of o m ≡ Rewrite h entries kept
+    → (o ≡ Ok (Some h)) × (m ≡ marked entries kept) × (entries ≡ 0 → ⊥)
 unfolding task_of header_task
-task-rewrite o (NotMarked n) h entries kept e = let z : ◌≡◌ {A = ℕ} 0 1 = cc in absurd (omega arith)
-task-rewrite (Ok None) (Marked n k) h entries kept e =
+task-rewrite o (Err n) h entries kept e = let z : ◌≡◌ {A = ℕ} 0 1 = cc in absurd (omega arith)
+task-rewrite (Ok None) (marked n k) h entries kept e =
     let P : Task → Type 0 = (λ w. w ≡ Rewrite h entries kept → ⊥) in
     absurd (pick-either P (eqb n 0) _ _ (λ t d. let z : ◌≡◌ {A = ℕ} 0 1 = cc in omega arith) (λ t d. let z : ◌≡◌ {A = ℕ} 0 1 = cc in omega arith) e)
-task-rewrite (Err j) (Marked n k) h entries kept e =
+task-rewrite (Err j) (marked n k) h entries kept e =
     let P : Task → Type 0 = (λ w. w ≡ Rewrite h entries kept → ⊥) in
     absurd (pick-either P (eqb n 0) _ _ (λ t d. let z : ◌≡◌ {A = ℕ} 0 1 = cc in omega arith) (λ t d. let z : ◌≡◌ {A = ℕ} 0 1 = cc in omega arith) e)
-task-rewrite (Ok (Some g)) (Marked n k) h entries kept e =
-    let P : Task → Type 0 = (λ w. w ≡ Rewrite h entries kept → (Ok (Some g) ≡ Ok (Some h)) × (Marked n k ≡ Marked entries kept) × (entries ≡ 0 → ⊥)) in
+task-rewrite (Ok (Some g)) (marked n k) h entries kept e =
+    let P : Task → Type 0 = (λ w. w ≡ Rewrite h entries kept → (Ok (Some g) ≡ Ok (Some h)) × (marked n k ≡ marked entries kept) × (entries ≡ 0 → ⊥)) in
     pick-either P (eqb n 0) _ _ (λ t d. let z : ◌≡◌ {A = ℕ} 0 1 = cc in absurd (omega arith))
     (λ t d. (cc, cc, let y : n ≡ entries = cc in λ i. eqb_no {a = n} {b = 0} t (y ∙ i))) e
 
@@ -289,23 +288,23 @@ module _ (x : Sections) (tables : Rooms) (t : Bool) (section : List ℕ) (task :
       Answers (collect_of x room t section) a (length map) (length ranges) (length locations) (length strings) (length out) map' ranges' locations' strings' out'
 
   -- nothing more is to be done
-  no-unit : (k : ℕ) → collect_of x room t section ≡ refused k → (a : Answer) → Done (Refused k) ≡ Done a → Answered a map ranges locations strings out
-  no-unit k q a e = refused-answers _ _ _ _ _ _ _ _ _ _ _ _ k q (let z : a ≡ Refused k = cc in z)
+  no-unit : (k : ℕ) → collect_of x room t section ≡ refused k → (a : Answer) → Done (Err k) ≡ Done a → Answered a map ranges locations strings out
+  no-unit k q a e = refused-answers _ _ _ _ _ _ _ _ _ _ _ _ k q (let z : a ≡ Err k = cc in z)
 
   no_entries : collect_of x room t section ≡ untouched 0 no_lists → (a : Answer) → Done (answer_for (untouched 0 no_lists)) ≡ Done a → Answered a map ranges locations strings out
   no_entries q a e =
       nothing-answers _ _ _ _ _ _ _ _ _ _ _ _ q (let z : a ≡ answer_for (untouched 0 no_lists) = cc in z) b.map_blank b.ranges_blank b.locations_blank b.strings_blank b.out_blank
 
-  by-task : (m : UnitMarks) → unit_marks (analysis_of x section tables) ≡ m → (o : Result (Option UnitHeader) ℕ) → header_by x section ≡ o → (a : Answer) → task_of o m ≡ Done a → Answered a map ranges locations strings out
+  by-task : (m : Result UnitMarks ℕ) → unit_marks (analysis_of x section tables) ≡ m → (o : Result (Option UnitHeader) ℕ) → header_by x section ≡ o → (a : Answer) → task_of o m ≡ Done a → Answered a map ranges locations strings out
   unfolding task_of header_task
-  by-task (NotMarked k) u o q a = no-unit k (collected-refused x room t section k u) a
-  by-task (Marked n k) u (Ok None) q a =
+  by-task (Err k) u o q a = no-unit k (collected-refused x room t section k u) a
+  by-task (marked n k) u (Ok None) q a =
       pick-either (λ (z : Task). z ≡ Done a → Answered a map ranges locations strings out) (eqb n 0) _ _
       (λ y. no_entries (collected-none x room t section n k u (eqb_yes {a = n} {b = 0} y)) a) (λ y. no_entries (collected-empty x room t section q) a)
-  by-task (Marked n k) u (Err j) q a =
+  by-task (marked n k) u (Err j) q a =
       pick-either (λ (z : Task). z ≡ Done a → Answered a map ranges locations strings out) (eqb n 0) _ _
       (λ y. no_entries (collected-none x room t section n k u (eqb_yes {a = n} {b = 0} y)) a) (λ y. no-unit j (collected-no x room t section j q) a)
-  by-task (Marked n k) u (Ok (Some h)) q a =
+  by-task (marked n k) u (Ok (Some h)) q a =
       pick-either (λ (z : Task). z ≡ Done a → Answered a map ranges locations strings out) (eqb n 0) _ _
       (λ y. no_entries (collected-none x room t section n k u (eqb_yes {a = n} {b = 0} y)) a) (λ y e. let z : ◌≡◌ {A = ℕ} 0 1 = cc in absurd (omega arith))
 
@@ -314,7 +313,7 @@ module _ (x : Sections) (tables : Rooms) (t : Bool) (section : List ℕ) (task :
 
   -- a unit that has entries
   module _ (h : UnitHeader) (entries kept : ℕ) (e : task ≡ Rewrite h entries kept) where
-    task-parts : (header_by x section ≡ Ok (Some h)) × (unit_marks (analysis_of x section tables) ≡ Marked entries kept) × (entries ≡ 0 → ⊥)
+    task-parts : (header_by x section ≡ Ok (Some h)) × (unit_marks (analysis_of x section tables) ≡ marked entries kept) × (entries ≡ 0 → ⊥)
     task-parts = task-rewrite (header_by x section) (unit_marks (analysis_of x section tables)) h entries kept (sym w.task_is ∙ e)
 
     marked : Marking x room t section h entries kept
@@ -379,7 +378,7 @@ by_lengths f a map' ranges' locations' strings' out' m m₀ r r₀ l l₀ s s₀
     (subst (λ (z : ℕ). Answers (f z r l s o) a z r l s o map' ranges' locations' strings' out') em h))))
 
 -- the answer for marked tables and cleared outputs
-pub unit-answers : (x : Sections) (tables : Rooms) (t : Bool) (section : List ℕ) (task : Task) (h : Result (Option UnitHeader) ℕ) (u : UnitMarks) (n p e k m r l s o : ℕ)
+pub unit-answers : (x : Sections) (tables : Rooms) (t : Bool) (section : List ℕ) (task : Task) (h : Result (Option UnitHeader) ℕ) (u : Result UnitMarks ℕ) (n p e k m r l s o : ℕ)
     (index parents ends marks map ranges locations strings out map' ranges' locations' strings' out' : List ℕ) (a : Answer)
     → task ≡ task_of h u → h ≡ header_by x section → u ≡ unit_marks (analysis_of x section tables)
     → index ≡ index_after x.abbreviations (header_by x section) n → length index ≡ n

@@ -12,7 +12,7 @@ use Rattle.readers.specs.Stream.{Item, entry, terminator}
 use Rattle.readers.proofs.Streams.{step-look}
 use Rattle.readers.specs.declared.cursor.Encoding.{Encoding}
 use Rattle.readers.specs.declared.cursor.Cursor.{Cursor}
-use Rattle.std.specs.Prelude.{Option, Some}
+use Rattle.std.specs.Prelude.{Option, Some, None}
 use Rattle.readers.specs.declared.abbreviations.Declaration.{Declaration}
 use Rattle.readers.specs.declared.entries.Step.{Step}
 use Rattle.readers.specs.declared.entries.Nesting.{Nesting}
@@ -29,8 +29,6 @@ use Rattle.rewriting.specs.Inner.IndexLists.{value_indices, ReadAs, TablesFound,
 use Rattle.rewriting.specs.declared.kept_items.Reading.{Reading}
 use Rattle.rewriting.specs.declared.kept_items.PassPosition.{PassPosition}
 use Rattle.rewriting.specs.declared.kept_items.KeptItem.{KeptItem}
-use Rattle.rewriting.specs.declared.kept_items.KeptStep.{KeptStep}
-use Rattle.rewriting.specs.declared.kept_items.KeptStep.TheVariants.{Item as Item', End}
 use Rattle.rewriting.proofs.KeptPass.ItemDepths.{Every, Stands, kept-stand}
 use Rattle.rewriting.proofs.ListPass.EntryIndices.{deep-indices}
 use Rattle.rewriting.proofs.KeptPass.EntryReads.{StepBy}
@@ -125,22 +123,22 @@ module _ (r : Reading) (s table unit : List ℕ) (k : ℕ) where
       },
     )
 
-    module _ (t : PassPosition) (o : KeptStep) (a : Answers items parents ends marks unit t o) where
-      pub collect-less : (y : KeptItem) → o ≡ Item' y → length unit - y.next.at.at < length unit - t.at.at
+    module _ (t : PassPosition) (o : Option KeptItem) (a : Answers items parents ends marks unit t o) where
+      pub collect-less : (y : KeptItem) → o ≡ Some y → length unit - y.next.at.at < length unit - t.at.at
       unfolding Forward
       collect-less y q =
-          let i : Forward unit t.at.at (Item' y) = subst (Forward unit t.at.at) q a.forward in
+          let i : Forward unit t.at.at (Some y) = subst (Forward unit t.at.at) q a.forward in
           omega (arith, i.0, i.1, i.2, i.3)
 
       module _ (list₀ list : List ℕ) (n : ℕ) (g : Collecting list₀ t list n) where
-        pub collect-end : o ≡ End → k < 3 → Puts k r s table unit parents ends marks first list₀ n list
+        pub collect-end : o ≡ None → k < 3 → Puts k r s table unit parents ends marks first list₀ n list
         unfolding Next indices_from
         collect-end q l x u p h =
             let v : Passing x u list₀ t list n = g.1 x u p l in
             let e : kept_at items parents ends marks t v.stack ≡ [] = subst (Next items parents ends marks t v.stack) q (a.next v.stack v.stood) in
             onward-end _ _ _ _ _ _ v.onward (ap (indices_from x u k) e) [] (gathered_none list₀ h)
 
-        module _ (y : KeptItem) (q : o ≡ Item' y) where
+        module _ (y : KeptItem) (q : o ≡ Some y) where
           module _ (x : Sections) (u : Unit') (p : PassInput x u r s table unit parents ends marks first) (l : k < 3) where
             abbrev now : Passing x u list₀ t list n
             now = g.1 x u p l

@@ -4,7 +4,7 @@ use Prim.Native.Nat.{ℕ, zero, suc, ◌+◌, ◌-◌, ◌^◌, ◌≤◌, ◌<�
 use native.Mathlib.Omega.{arith}
 use mathlib.Core.Bool.{Bool, true, false, false≢true}
 use mathlib.Core.List.{List, [], ◌∷◌, ◌++◌}
-use Rattle.std.specs.Prelude.{Option}
+use Rattle.std.specs.Prelude.{Option, Err, None, Ok, Result}
 use lib.ListN.{length, take, get_or}
 use lib.Dec.{leb}
 use borrow.Author.Tests.{eq-eqb, ne_eqb}
@@ -29,14 +29,12 @@ use Rattle.rewriting.specs.Inner.NextKept.{items_by}
 use Rattle.rewriting.specs.Rewriting.{Unit as Unit', unit_of, Lists, Room, Collected, untouched, refused, items_in, lists_of, lists_fit, or_refused, rewrite_of, marks_collected}
 use Rattle.rewriting.specs.Inner.IndexLists.{ReadAs, TablesFound, PassInput}
 use Rattle.rewriting.specs.Inner.Emission.{ListsLent}
-use Rattle.rewriting.specs.Outputs.{room_by, list_count, answer_for, map_for, output_for, list_or, list_for, ranges_in, locations_in, strings_in}
+use Rattle.rewriting.specs.Outputs.{Answer, room_by, list_count, answer_for, map_for, output_for, list_or, list_for, ranges_in, locations_in, strings_in}
 use Rattle.rewriting.specs.Inner.Leaving.{Accepts, Answers, Tabled, Blank, marked_of, list_room, ListsAnswer, Writable, WriteAnswer}
 use Rattle.rewriting.specs.declared.kept_items.Reading.{Reading}
-use Rattle.rewriting.specs.declared.lists.ListCount.{ListCount}
 use Rattle.rewriting.specs.declared.collect.Listed.{Listed}
-use Rattle.rewriting.specs.declared.collect.Listed.TheVariants.{Made, Short}
-use Rattle.rewriting.specs.declared.collect.Collected.{Collected as Answer}
-use Rattle.rewriting.specs.declared.collect.Collected.TheVariants.{Untouched, Refused}
+use Rattle.rewriting.specs.Refusals.{listed}
+use Rattle.rewriting.specs.declared.collect.Collected.TheVariants.{Untouched}
 use Rattle.readers.specs.Header.{length_size}
 use Rattle.readers.proofs.HeaderLaws.{HeaderLaw, header-laws}
 use Rattle.rewriting.proofs.Whole.AcceptedUnits.{Accepted}
@@ -189,7 +187,7 @@ rewrite-lists x room u entries kept l items f n =
 module _ (t : Bool) (section : List ℕ) (h : UnitHeader) (s index parents ends marks : List ℕ) (entries kept : ℕ) (map ranges locations strings out unit : List ℕ) (is : unit ≡ take h.end section)
     (ends' : List ℕ)
     (fe : entry_count (items_by (reading h.abbreviations h.encoding) s index unit h.first.0) ≤ length ends → EndsHeld ends' 0 (items_by (reading h.abbreviations h.encoding) s index unit h.first.0))
-    (listed : Listed) (ranges' locations' strings' : List ℕ)
+    (listed : Option Listed) (ranges' locations' strings' : List ℕ)
     (il : (x : Sections) (u : Unit') → PassInput x u (reading h.abbreviations h.encoding) s index unit parents ends' marks h.first.0 → h.first.0 ≡ u.header.first.0
     → ranges ≡ zeros (length ranges) → locations ≡ zeros (length locations) → strings ≡ zeros (length strings)
     → ListsAnswer (lists_of x u t (kept_from marks 0 [] (items_in x u))) (length ranges) (length locations) (length strings) listed ranges' locations' strings') where
@@ -220,13 +218,13 @@ module _ (t : Bool) (section : List ℕ) (h : UnitHeader) (s index parents ends 
     abbrev fit : Bool
     fit = lists_fit (list_room (length ranges) (length locations) (length strings)) l
 
-    fits-made : (p q r : ListCount) → listed ≡ Made p q r → fit ≡ true
+    fits-made : (p q r : Option ℕ) → listed ≡ listed p q r → fit ≡ true
     fits-made p q r e =
-        true-or-false fit (fit ≡ true) (λ y. y) (λ n. let z : Short ≡ Made p q r = sym (those.short n) ∙ e in let k : ◌≡◌ {A = ℕ} 0 1 = cc in absurd (omega arith))
+        true-or-false fit (fit ≡ true) (λ y. y) (λ n. let z : None ≡ listed p q r = sym (those.short n) ∙ e in let k : ◌≡◌ {A = ℕ} 0 1 = cc in absurd (omega arith))
 
-    fits-short : listed ≡ Short → fit ≡ false
+    fits-short : listed ≡ None → fit ≡ false
     fits-short e =
-        true-or-false fit (fit ≡ false) (λ y. let z : Made (list_count l.ranges) (list_count l.locations) (list_count l.strings) ≡ Short = sym (those.made y) ∙ e in let k : ◌≡◌ {A = ℕ} 0 1 = cc in absurd (omega arith)) (λ n. n)
+        true-or-false fit (fit ≡ false) (λ y. let z : listed (list_count l.ranges) (list_count l.locations) (list_count l.strings) ≡ None = sym (those.made y) ∙ e in let k : ◌≡◌ {A = ℕ} 0 1 = cc in absurd (omega arith)) (λ n. n)
 
     is-short-of : fit ≡ false → marked_of x room t u rows ≡ refused 12
     unfolding marks_collected lists_fit
@@ -240,16 +238,16 @@ module _ (t : Bool) (section : List ℕ) (h : UnitHeader) (s index parents ends 
     unfolding marks_collected lists_fit
     is-written q e = pick_is _ _ _ q ∙ pick-else _ _ _ (ne_eqb _ _ e)
 
-    counts : (p q r : ListCount) → listed ≡ Made p q r → (p ≡ list_count l.ranges) × (q ≡ list_count l.locations) × (r ≡ list_count l.strings)
+    counts : (p q r : Option ℕ) → listed ≡ listed p q r → (p ≡ list_count l.ranges) × (q ≡ list_count l.locations) × (r ≡ list_count l.strings)
     counts p q r e =
-        let z : Made p q r ≡ Made (list_count l.ranges) (list_count l.locations) (list_count l.strings) = sym e ∙ those.made (fits-made p q r e) in
+        let z : listed p q r ≡ listed (list_count l.ranges) (list_count l.locations) (list_count l.strings) = sym e ∙ those.made (fits-made p q r e) in
         (cc, cc, cc)
 
-    short-one : listed ≡ Short → Answers (marked_of x room t u rows) (Refused 12) (length map) (length ranges) (length locations) (length strings) (length out) map ranges' locations' strings' out
-    short-one e = refused-answers (marked_of x room t u rows) (Refused 12) (length map) (length ranges) (length locations) (length strings) (length out) map ranges' locations' strings' out 12 (is-short-of (fits-short e)) refl
+    short-one : listed ≡ None → Answers (marked_of x room t u rows) (Err 12) (length map) (length ranges) (length locations) (length strings) (length out) map ranges' locations' strings' out
+    short-one e = refused-answers (marked_of x room t u rows) (Err 12) (length map) (length ranges) (length locations) (length strings) (length out) map ranges' locations' strings' out 12 (is-short-of (fits-short e)) refl
 
-    untouched-one : (p q r : ListCount) → listed ≡ Made p q r → kept ≡ entries
-        → Answers (marked_of x room t u rows) (Untouched (record { entries = entries; kept = kept; places = 0; bytes = 0; ranges = p; locations = q; strings = r }))
+    untouched-one : (p q r : Option ℕ) → listed ≡ listed p q r → kept ≡ entries
+        → Answers (marked_of x room t u rows) (Ok (Ok (Untouched (record { entries = entries; kept = kept; places = 0; bytes = 0; ranges = p; locations = q; strings = r }))))
         (length map) (length ranges) (length locations) (length strings) (length out) map ranges' locations' strings' out
     unfolding answer_for map_for list_for output_for
     untouched-one p q r e k =
@@ -260,11 +258,11 @@ module _ (t : Bool) (section : List ℕ) (h : UnitHeader) (s index parents ends 
         let ek : kept ≡ n = k ∙ w.entries_are in
         record {
           told =
-              ap (λ (v : ℕ). Untouched (record { entries = v; kept = kept; places = 0; bytes = 0; ranges = p; locations = q; strings = r })) w.entries_are
-              ∙ ap (λ (v : ℕ). Untouched (record { entries = n; kept = v; places = 0; bytes = 0; ranges = p; locations = q; strings = r })) ek
-              ∙ ap (λ (v : ListCount). Untouched (record { entries = n; kept = n; places = 0; bytes = 0; ranges = v; locations = q; strings = r })) z.0
-              ∙ ap (λ (v : ListCount). Untouched (record { entries = n; kept = n; places = 0; bytes = 0; ranges = list_count l.ranges; locations = v; strings = r })) z.1
-              ∙ ap (λ (v : ListCount). Untouched (record { entries = n; kept = n; places = 0; bytes = 0; ranges = list_count l.ranges; locations = list_count l.locations; strings = v })) z.2
+              ap (λ (v : ℕ). Ok (Ok (Untouched (record { entries = v; kept = kept; places = 0; bytes = 0; ranges = p; locations = q; strings = r })))) w.entries_are
+              ∙ ap (λ (v : ℕ). Ok (Ok (Untouched (record { entries = n; kept = v; places = 0; bytes = 0; ranges = p; locations = q; strings = r })))) ek
+              ∙ ap (λ (v : Option ℕ). Ok (Ok (Untouched (record { entries = n; kept = n; places = 0; bytes = 0; ranges = v; locations = q; strings = r })))) z.0
+              ∙ ap (λ (v : Option ℕ). Ok (Ok (Untouched (record { entries = n; kept = n; places = 0; bytes = 0; ranges = list_count l.ranges; locations = v; strings = r })))) z.1
+              ∙ ap (λ (v : Option ℕ). Ok (Ok (Untouched (record { entries = n; kept = n; places = 0; bytes = 0; ranges = list_count l.ranges; locations = list_count l.locations; strings = v })))) z.2
               ∙ sym (ap answer_for c);
           map_left = λ _. b.map_blank ∙ sym (ap (map_for (length map)) c);
           ranges_left = λ _. those.ranges_left y ∙ sym (ap (list_for ranges_in (length ranges)) c);
@@ -273,7 +271,7 @@ module _ (t : Bool) (section : List ℕ) (h : UnitHeader) (s index parents ends 
           out_left = λ _. b.out_blank ∙ sym (ap (output_for (length out)) c);
         }
 
-    module _ (p q r : ListCount) (e : listed ≡ Made p q r) (dead : kept ≡ entries → ⊥) (a : Answer) (map' out' : List ℕ)
+    module _ (p q r : Option ℕ) (e : listed ≡ listed p q r) (dead : kept ≡ entries → ⊥) (a : Answer) (map' out' : List ℕ)
         (k : (x : Sections) (u : Unit') (lists : Lists) (room : Room) → PassInput x u (reading h.abbreviations h.encoding) s index unit parents ends' marks h.first.0
         → ListsLent lists ranges' p locations' q strings' r → Writable u room unit h.first.0 map out
         → WriteAnswer (rewrite_of x room u entries kept lists (kept_from marks 0 [] (items_in x u))) a (length map) (length out) map' out') where
@@ -283,9 +281,9 @@ module _ (t : Bool) (section : List ℕ) (h : UnitHeader) (s index parents ends 
       lent-here : ListsLent l ranges' p locations' q strings' r
       lent-here =
           let z = counts p q r e in
-          subst (λ (v : ListCount). ListsLent l ranges' v locations' q strings' r) (sym z.0)
-          (subst (λ (v : ListCount). ListsLent l ranges' (list_count l.ranges) locations' v strings' r) (sym z.1)
-          (subst (λ (v : ListCount). ListsLent l ranges' (list_count l.ranges) locations' (list_count l.locations) strings' v) (sym z.2) (those.lent (fits-made p q r e))))
+          subst (λ (v : Option ℕ). ListsLent l ranges' v locations' q strings' r) (sym z.0)
+          (subst (λ (v : Option ℕ). ListsLent l ranges' (list_count l.ranges) locations' v strings' r) (sym z.1)
+          (subst (λ (v : Option ℕ). ListsLent l ranges' (list_count l.ranges) locations' (list_count l.locations) strings' v) (sym z.2) (those.lent (fits-made p q r e))))
 
       wrote : WriteAnswer wanted a (length map) (length out) map' out'
       wrote =
@@ -310,14 +308,14 @@ module _ (t : Bool) (section : List ℕ) (h : UnitHeader) (s index parents ends 
             out_left = wrote.out_left;
           })
 
-  pub short-unit : listed ≡ Short → Goal (Refused 12) map out
+  pub short-unit : listed ≡ None → Goal (Err 12) map out
   short-unit e x tables ds rows w b = short-one x tables ds rows w b e
 
-  pub untouched-unit : (p q r : ListCount) → listed ≡ Made p q r → kept ≡ entries
-      → Goal (Untouched (record { entries = entries; kept = kept; places = 0; bytes = 0; ranges = p; locations = q; strings = r })) map out
+  pub untouched-unit : (p q r : Option ℕ) → listed ≡ listed p q r → kept ≡ entries
+      → Goal (Ok (Ok (Untouched (record { entries = entries; kept = kept; places = 0; bytes = 0; ranges = p; locations = q; strings = r })))) map out
   untouched-unit p q r e k x tables ds rows w b = untouched-one x tables ds rows w b p q r e k
 
-  pub written-unit : (p q r : ListCount) → listed ≡ Made p q r → (kept ≡ entries → ⊥) → (a : Answer) (map' out' : List ℕ)
+  pub written-unit : (p q r : Option ℕ) → listed ≡ listed p q r → (kept ≡ entries → ⊥) → (a : Answer) (map' out' : List ℕ)
       → ((x : Sections) (u : Unit') (lists : Lists) (room : Room) → PassInput x u (reading h.abbreviations h.encoding) s index unit parents ends' marks h.first.0
       → ListsLent lists ranges' p locations' q strings' r → Writable u room unit h.first.0 map out
       → WriteAnswer (rewrite_of x room u entries kept lists (kept_from marks 0 [] (items_in x u))) a (length map) (length out) map' out')

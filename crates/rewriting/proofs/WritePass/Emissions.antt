@@ -4,7 +4,7 @@ use Prim.Native.Nat.{ℕ, suc, ◌+◌, ◌-◌, ◌^◌, ◌≤◌, ◌<◌}
 use native.Mathlib.Omega.{arith}
 use mathlib.Core.Bool.{Bool, true, false}
 use mathlib.Core.List.{List, [], ◌++◌, append_assoc, append-nil}
-use Rattle.std.specs.Prelude.{None, Option, Some}
+use Rattle.std.specs.Prelude.{None, Option, Some, Err, Ok, Result}
 use mathlib.Core.Logic.{⊎_elim}
 use lib.ListN.{length, take, drop, length-append, length-drop, drop_of_length-le, take-append-drop}
 use lib.Seq.{length-take-le, take_at, drop-append-add, drop-drop, take_all, take-nil}
@@ -23,12 +23,6 @@ use Rattle.rewriting.specs.Emission.{between, copied_count}
 use Rattle.rewriting.specs.Inner.Emission.{Emits, Within, onward, Wide, number_refusal, offset_refusal, Lent}
 use Rattle.rewriting.proofs.WritePass.Putting.{fit-room, bytes-room}
 use Rattle.readers.specs.declared.offsets.UnitOffset.{UnitOffset}
-use Rattle.rewriting.specs.declared.emit_entry.Emitted.{Emitted}
-use Rattle.rewriting.specs.declared.emit_entry.Emitted.TheVariants.{To, Refused}
-use Rattle.rewriting.specs.declared.lists.ListCount.{ListCount}
-use Rattle.rewriting.specs.declared.lists.ListCount.TheVariants.{Present, Absent}
-use Rattle.rewriting.specs.declared.map.Mapped.{Mapped}
-use Rattle.rewriting.specs.declared.map.Mapped.TheVariants.{To as Mapped', Nothing}
 
 -- ---- lists
 
@@ -78,26 +72,26 @@ part_length out at = length-take-le (length out - at) (drop at out) (omega (arit
 -- ---- one after the other
 
 -- `bytes` are to be written from `at` on, or refused by n: what is answered, with the next free byte, and how the output then is, if it has room for them
-pub record EmitsAt (n : ℕ) (bytes out : List ℕ) (at : ℕ) (r : Emitted) (out' : List ℕ) : Type 0 where
+pub record EmitsAt (n : ℕ) (bytes out : List ℕ) (at : ℕ) (r : Result ℕ ℕ) (out' : List ℕ) : Type 0 where
   pub size : length out' ≡ length out
-  pub fine : at + length bytes ≤ length out → n ≡ 0 → (r ≡ To (at + length bytes)) × (out' ≡ put out at bytes)
-  pub no : at + length bytes ≤ length out → (n ≡ 0 → ⊥) → r ≡ Refused n
+  pub fine : at + length bytes ≤ length out → n ≡ 0 → (r ≡ Ok (at + length bytes)) × (out' ≡ put out at bytes)
+  pub no : at + length bytes ≤ length out → (n ≡ 0 → ⊥) → r ≡ Err n
 
-emitted-to : (a b : ℕ) → To a ≡ To b → a ≡ b
+emitted-to : (a b : ℕ) → Ok a ≡ Ok b → a ≡ b
 emitted-to a b h = cc
 
-emitted-not : (a b : ℕ) → To a ≡ Refused b → ⊥
+emitted-not : (a b : ℕ) → Ok a ≡ Err b → ⊥
 emitted-not a b h = let z : ◌≡◌ {A = ℕ} 0 1 = cc in absurd (omega arith)
 
-pub emits_none : (out : List ℕ) (at : ℕ) → EmitsAt 0 [] out at (To at) out
+pub emits_none : (out : List ℕ) (at : ℕ) → EmitsAt 0 [] out at (Ok at) out
 emits_none out at =
     record {
       size = refl;
-      fine = λ _ _. (ap To (let h : at ≡ at + 0 = omega arith in h), sym (put-none out at));
+      fine = λ _ _. (ap Ok (let h : at ≡ at + 0 = omega arith in h), sym (put-none out at));
       no = λ _ n. absurd (n refl);
     }
 
-pub emits-as : {n m : ℕ} {a b : List ℕ} {out : List ℕ} {at : ℕ} {r : Emitted} {out' : List ℕ} → n ≡ m → a ≡ b → EmitsAt n a out at r out' → EmitsAt m b out at r out'
+pub emits-as : {n m : ℕ} {a b : List ℕ} {out : List ℕ} {at : ℕ} {r : Result ℕ ℕ} {out' : List ℕ} → n ≡ m → a ≡ b → EmitsAt n a out at r out' → EmitsAt m b out at r out'
 emits-as {m = m} {a = a} {out = out} {at = at} {r = r} {out' = out'} p q h =
     subst (λ x. EmitsAt m x out at r out') q (subst (λ x. EmitsAt x a out at r out') p h)
 
@@ -110,7 +104,7 @@ unfolding or_next
 next-no n m h = pick_no _ _ _ (no_eqb {a = n} {b = 0} h)
 
 module _ (n m : ℕ) (a b out : List ℕ) (at : ℕ) where
-  pub emits_then : (to : ℕ) (out₁ : List ℕ) (r : Emitted) (out₂ : List ℕ) → EmitsAt n a out at (To to) out₁ → EmitsAt m b out₁ to r out₂
+  pub emits_then : (to : ℕ) (out₁ : List ℕ) (r : Result ℕ ℕ) (out₂ : List ℕ) → EmitsAt n a out at (Ok to) out₁ → EmitsAt m b out₁ to r out₂
       → EmitsAt (or_next n m) (a ++ b) out at r out₂
   emits_then to out₁ r out₂ f g =
       let l : length (a ++ b) ≡ length a + length b = length-append a b in
@@ -119,24 +113,24 @@ module _ (n m : ℕ) (a b out : List ℕ) (at : ℕ) where
         size = g.size ∙ s;
         fine = λ room z. ⊎_elim
             (λ t. let n0 : n ≡ 0 = eqb_yes {a = n} {b = 0} t in
-            let p : (To to ≡ To (at + length a)) × (out₁ ≡ put out at a) = f.fine (omega arith) n0 in
+            let p : (Ok to ≡ Ok (at + length a)) × (out₁ ≡ put out at a) = f.fine (omega arith) n0 in
             let w : to ≡ at + length a = emitted-to to (at + length a) p.0 in
-            let q : (r ≡ To (to + length b)) × (out₂ ≡ put out₁ to b) = g.fine (omega arith) (sym (next-yes n m n0) ∙ z) in (
-              q.0 ∙ ap To (let k : to + length b ≡ at + length (a ++ b) = omega arith in k),
+            let q : (r ≡ Ok (to + length b)) × (out₂ ≡ put out₁ to b) = g.fine (omega arith) (sym (next-yes n m n0) ∙ z) in (
+              q.0 ∙ ap Ok (let k : to + length b ≡ at + length (a ++ b) = omega arith in k),
               q.1 ∙ ap₂ (λ (x : List ℕ) (y : ℕ). put x y b) p.1 w ∙ put-put out a b at (omega arith),
             ))
             (λ t. let n1 : n ≡ 0 → ⊥ = eqb_no {a = n} {b = 0} t in absurd (n1 (sym (next-no n m n1) ∙ z)))
             (either (eqb n 0));
         no = λ room z. ⊎_elim
             (λ t. let n0 : n ≡ 0 = eqb_yes {a = n} {b = 0} t in
-            let p : (To to ≡ To (at + length a)) × (out₁ ≡ put out at a) = f.fine (omega arith) n0 in
+            let p : (Ok to ≡ Ok (at + length a)) × (out₁ ≡ put out at a) = f.fine (omega arith) n0 in
             let w : to ≡ at + length a = emitted-to to (at + length a) p.0 in
-            g.no (omega arith) (λ k. z (next-yes n m n0 ∙ k)) ∙ ap Refused (sym (next-yes n m n0)))
+            g.no (omega arith) (λ k. z (next-yes n m n0 ∙ k)) ∙ ap Err (sym (next-yes n m n0)))
             (λ t. absurd (emitted-not _ _ (f.no (omega arith) (eqb_no {a = n} {b = 0} t))))
             (either (eqb n 0));
       }
 
-  pub emits-stop : (k : ℕ) (out₁ : List ℕ) → EmitsAt n a out at (Refused k) out₁ → EmitsAt (or_next n m) (a ++ b) out at (Refused k) out₁
+  pub emits-stop : (k : ℕ) (out₁ : List ℕ) → EmitsAt n a out at (Err k) out₁ → EmitsAt (or_next n m) (a ++ b) out at (Err k) out₁
   emits-stop k out₁ f =
       let l : length (a ++ b) ≡ length a + length b = length-append a b in
       let zero-not : at + length (a ++ b) ≤ length out → n ≡ 0 → ⊥ = (λ room z. emitted-not _ _ (sym (f.fine (omega arith) z).0)) in
@@ -146,12 +140,12 @@ module _ (n m : ℕ) (a b out : List ℕ) (at : ℕ) where
             (λ t. absurd (zero-not room (eqb_yes {a = n} {b = 0} t)))
             (λ t. let n1 : n ≡ 0 → ⊥ = eqb_no {a = n} {b = 0} t in absurd (n1 (sym (next-no n m n1) ∙ z)))
             (either (eqb n 0));
-        no = λ room z. f.no (omega arith) (zero-not room) ∙ ap Refused (sym (next-no n m (zero-not room)));
+        no = λ room z. f.no (omega arith) (zero-not room) ∙ ap Err (sym (next-no n m (zero-not room)));
       }
 
 -- ---- from the start of a part
 
-module _ {n : ℕ} {bytes out : List ℕ} {r : Emitted} {out' : List ℕ} where
+module _ {n : ℕ} {bytes out : List ℕ} {r : Result ℕ ℕ} {out' : List ℕ} where
   -- from the output's first byte on
   pub at-start : Emits n bytes out r out' → EmitsAt n bytes out 0 r out'
   unfolding put
@@ -159,7 +153,7 @@ module _ {n : ℕ} {bytes out : List ℕ} {r : Emitted} {out' : List ℕ} where
       record {
         size = f.size;
         fine = λ room z. (
-          (f.fine (omega arith) z).0 ∙ ap To (let h : length bytes ≡ 0 + length bytes = omega arith in h),
+          (f.fine (omega arith) z).0 ∙ ap Ok (let h : length bytes ≡ 0 + length bytes = omega arith in h),
           (f.fine (omega arith) z).1 ∙ ap (λ m. bytes ++ drop m out) (let h : length bytes ≡ 0 + length bytes = omega arith in h),
         );
         no = λ room z. f.no (omega arith) z;
@@ -171,7 +165,7 @@ module _ {n : ℕ} {bytes out : List ℕ} {r : Emitted} {out' : List ℕ} where
       record {
         size = f.size;
         fine = λ room z. (
-          (f.fine (omega arith) z).0 ∙ ap To (let h : 0 + length bytes ≡ length bytes = omega arith in h),
+          (f.fine (omega arith) z).0 ∙ ap Ok (let h : 0 + length bytes ≡ length bytes = omega arith in h),
           (f.fine (omega arith) z).1 ∙ ap (λ m. bytes ++ drop m out) (let h : 0 + length bytes ≡ length bytes = omega arith in h),
         );
         no = λ room z. f.no (omega arith) z;
@@ -190,7 +184,7 @@ module _ (out : List ℕ) (at : ℕ) (i : at ≤ length out) (x : List ℕ) wher
       let d : List ℕ = drop (length out - at) (drop at out) in
       omega (arith, length-append (take at out) (x ++ d), length-append x d, length-take-le at out i, length-drop (length out - at) (drop at out), length-drop at out, part_length out at)
 
-  pub emits-home : {n : ℕ} {bytes : List ℕ} {r : Emitted} → Emits n bytes part r x → EmitsAt n bytes out at (onward at r) home
+  pub emits-home : {n : ℕ} {bytes : List ℕ} {r : Result ℕ ℕ} → Emits n bytes part r x → EmitsAt n bytes out at (onward at r) home
   unfolding onward
   emits-home {bytes = bytes} f =
       record {
@@ -229,93 +223,93 @@ module _ (bytes out : List ℕ) (n : ℕ) (out' : List ℕ) (p : n ≡ copied_co
       (λ t. ap length (q ∙ pick_no _ _ _ t))
       (either (leb (length bytes) (length out)))
 
-  pub copied-within : Within out (To n) out'
+  pub copied-within : Within out (Ok n) out'
   copied-within = record { size = copied-size; room = λ m w. subst (λ k. k ≤ length out) (emitted-to n m w) copied-room }
 
-  copied-emits : Emits 0 bytes out (To n) out'
+  copied-emits : Emits 0 bytes out (Ok n) out'
   unfolding copied_count over
   copied-emits =
       record {
         size = copied-size;
         fine = λ room _. (
-          ap To (p ∙ pick_yes _ _ _ (yes_leb {a = length bytes} {b = length out} room)),
+          ap Ok (p ∙ pick_yes _ _ _ (yes_leb {a = length bytes} {b = length out} room)),
           q ∙ pick_yes _ _ _ (yes_leb {a = length bytes} {b = length out} room),
         );
         no = λ _ z. absurd (z refl);
       }
 
   -- from the first byte on
-  pub copied-front : (those : List ℕ) → bytes ≡ those → EmitsAt 0 those out 0 (To n) out'
+  pub copied-front : (those : List ℕ) → bytes ≡ those → EmitsAt 0 those out 0 (Ok n) out'
   copied-front those w = emits-as refl w (at-start copied-emits)
 
 -- ---- a writer that has written so many bytes, and another one on the part behind them
 
-pub within-start : (out : List ℕ) → Within out (To 0) out
+pub within-start : (out : List ℕ) → Within out (Ok 0) out
 within-start out = record { size = refl; room = λ n q. (let w : 0 ≡ n = emitted-to 0 n q in omega arith) }
 
-pub within-no : (out : List ℕ) (k : ℕ) (out' : List ℕ) → length out' ≡ length out → Within out (Refused k) out'
+pub within-no : (out : List ℕ) (k : ℕ) (out' : List ℕ) → length out' ≡ length out → Within out (Err k) out'
 within-no out k out' s = record { size = s; room = λ n q. absurd (emitted-not n k (sym q)) }
 
-pub within-to : (out : List ℕ) (n : ℕ) (out' : List ℕ) → length out' ≡ length out → n ≤ length out → Within out (To n) out'
+pub within-to : (out : List ℕ) (n : ℕ) (out' : List ℕ) → length out' ≡ length out → n ≤ length out → Within out (Ok n) out'
 within-to out n out' s h = record { size = s; room = λ m q. subst (λ k. k ≤ length out) (emitted-to n m q) h }
 
-pub within-self : {out out' : List ℕ} {n : ℕ} → Within out (To n) out' → Within out' (To n) out'
+pub within-self : {out out' : List ℕ} {n : ℕ} → Within out (Ok n) out' → Within out' (Ok n) out'
 within-self {out = out} {out' = out'} {n = n} f = within-to out' n out' refl (let a : n ≤ length out = f.room n refl in let s : length out' ≡ length out = f.size in omega arith)
 
-pub within-trans : {out out₁ out₂ : List ℕ} {r z : Emitted} → Within out r out₁ → Within out₁ z out₂ → Within out z out₂
+pub within-trans : {out out₁ out₂ : List ℕ} {r z : Result ℕ ℕ} → Within out r out₁ → Within out₁ z out₂ → Within out z out₂
 within-trans {out = out} {out₁ = out₁} {z = z} f g =
     record { size = g.size ∙ f.size; room = λ n q. (let a : n ≤ length out₁ = g.room n q in let s : length out₁ ≡ length out = f.size in omega arith) }
 
-pub size_small : {out out' : List ℕ} {r : Emitted} → Within out r out' → length out < 2 ^ 64 → length out' < 2 ^ 64
+pub size_small : {out out' : List ℕ} {r : Result ℕ ℕ} → Within out r out' → length out < 2 ^ 64 → length out' < 2 ^ 64
 size_small f l = subst (λ n. n < 2 ^ 64) (sym f.size) l
 
-pub onward-to : (at n : ℕ) (r : Emitted) → r ≡ To n → onward at r ≡ To (at + n)
+pub onward-to : (at n : ℕ) (r : Result ℕ ℕ) → r ≡ Ok n → onward at r ≡ Ok (at + n)
 unfolding onward
 onward-to at n r q = ap (onward at) q
 
-pub onward-no : (at n : ℕ) (r : Emitted) → r ≡ Refused n → onward at r ≡ Refused n
+pub onward-no : (at n : ℕ) (r : Result ℕ ℕ) → r ≡ Err n → onward at r ≡ Err n
 unfolding onward
 onward-no at n r q = ap (onward at) q
 
-onward-room : (r : Emitted) (at m k : ℕ) → ((n : ℕ) → r ≡ To n → n ≤ m) → at + m ≤ k → (n : ℕ) → onward at r ≡ To n → n ≤ k
+onward-room : (r : Result ℕ ℕ) (at m k : ℕ) → ((n : ℕ) → r ≡ Ok n → n ≤ m) → at + m ≤ k → (n : ℕ) → onward at r ≡ Ok n → n ≤ k
 unfolding onward
-onward-room (To j) at m k h l n q = let a : j ≤ m = h j refl in let w : at + j ≡ n = emitted-to (at + j) n q in omega arith
-onward-room (Refused j) at m k h l n q = absurd (emitted-not n j (sym q))
+onward-room (Ok j) at m k h l n q = let a : j ≤ m = h j refl in let w : at + j ≡ n = emitted-to (at + j) n q in omega arith
+onward-room (Err j) at m k h l n q = absurd (emitted-not n j (sym q))
 
-module _ (out₀ out : List ℕ) (to : ℕ) (inv : Within out₀ (To to) out) where
+module _ (out₀ out : List ℕ) (to : ℕ) (inv : Within out₀ (Ok to) out) where
   pub inside : to ≤ length out
   inside = let a : to ≤ length out₀ = inv.room to refl in let s : length out ≡ length out₀ = inv.size in omega arith
 
-  pub emits-on : {n : ℕ} {bytes : List ℕ} {r : Emitted} {x : List ℕ} → Emits n bytes (take (length out - to) (drop to out)) r x
+  pub emits-on : {n : ℕ} {bytes : List ℕ} {r : Result ℕ ℕ} {x : List ℕ} → Emits n bytes (take (length out - to) (drop to out)) r x
       → EmitsAt n bytes out to (onward to r) (take to out ++ (x ++ drop (length out - to) (drop to out)))
   emits-on {x = x} f = emits-home out to inside x f
 
   pub copied_on : (bytes : List ℕ) (n : ℕ) (x : List ℕ) → n ≡ copied_count bytes (take (length out - to) (drop to out)) → x ≡ over bytes (take (length out - to) (drop to out))
-      → (those : List ℕ) → bytes ≡ those → EmitsAt 0 those out to (To (to + n)) (take to out ++ (x ++ drop (length out - to) (drop to out)))
+      → (those : List ℕ) → bytes ≡ those → EmitsAt 0 those out to (Ok (to + n)) (take to out ++ (x ++ drop (length out - to) (drop to out)))
   unfolding onward
   copied_on bytes n x p q those w = emits-as refl w (emits-on (copied-emits bytes (take (length out - to) (drop to out)) n x p q))
 
-  module _ (r : Emitted) (x : List ℕ) (w : Within (take (length out - to) (drop to out)) r x) where
+  module _ (r : Result ℕ ℕ) (x : List ℕ) (w : Within (take (length out - to) (drop to out)) r x) where
     home-as : length (take to out ++ (x ++ drop (length out - to) (drop to out))) ≡ length out₀
     home-as = home-size out to inside x w.size ∙ inv.size
 
-    pub within-after : (z : Emitted) → z ≡ onward to r → Within out₀ z (take to out ++ (x ++ drop (length out - to) (drop to out)))
+    pub within-after : (z : Result ℕ ℕ) → z ≡ onward to r → Within out₀ z (take to out ++ (x ++ drop (length out - to) (drop to out)))
     within-after z q =
         record {
           size = home-as;
           room = λ n k. onward-room r to (length (take (length out - to) (drop to out))) (length out₀) w.room (omega (arith, inside, part_length out to, inv.size)) n (sym q ∙ k);
         }
 
-    pub within_on : (n : ℕ) → r ≡ To n → Within out₀ (To (to + n)) (take to out ++ (x ++ drop (length out - to) (drop to out)))
-    within_on n q = within-after (To (to + n)) (sym (onward-to to n r q))
+    pub within_on : (n : ℕ) → r ≡ Ok n → Within out₀ (Ok (to + n)) (take to out ++ (x ++ drop (length out - to) (drop to out)))
+    within_on n q = within-after (Ok (to + n)) (sym (onward-to to n r q))
 
-    pub within-stop : (k : ℕ) → Within out₀ (Refused k) (take to out ++ (x ++ drop (length out - to) (drop to out)))
+    pub within-stop : (k : ℕ) → Within out₀ (Err k) (take to out ++ (x ++ drop (length out - to) (drop to out)))
     within-stop k = within-no out₀ k _ home-as
 
-    pub after_small : length out₀ < 2 ^ 64 → (n : ℕ) → r ≡ To n → to + n < 2 ^ 64
+    pub after_small : length out₀ < 2 ^ 64 → (n : ℕ) → r ≡ Ok n → to + n < 2 ^ 64
     after_small l n q = let a : to + n ≤ length out₀ = (within_on n q).room (to + n) refl in omega arith
 
-pub emits-after : {n : ℕ} {bytes out : List ℕ} {r z : Emitted} {out' : List ℕ} → z ≡ r → EmitsAt n bytes out 0 r out' → Emits n bytes out z out'
+pub emits-after : {n : ℕ} {bytes out : List ℕ} {r z : Result ℕ ℕ} {out' : List ℕ} → z ≡ r → EmitsAt n bytes out 0 r out' → Emits n bytes out z out'
 emits-after {n = n} {bytes = bytes} {out = out} {out' = out'} q f = subst (λ y. Emits n bytes out y out') (sym q) (from_start f)
 
 -- ---- bytes of a slice
@@ -396,7 +390,7 @@ module _ (value w : ℕ) (leb' big : Bool) (out : List ℕ) where
     pub number-room : r ≡ true → w ≤ length out
     number-room t = fits-room leb' w value (length out) (sym did.told ∙ t)
 
-    pub number-yes : r ≡ true → Wide leb' w → Emits (number_refusal code value) the-bytes out (To w) x
+    pub number-yes : r ≡ true → Wide leb' w → Emits (number_refusal code value) the-bytes out (Ok w) x
     unfolding number_refusal pick
     number-yes t h =
         let z : number_refusal code value ≡ 0 = ap (λ b. pick b 0 9) (sym (answered h (number-room t)) ∙ t) in
@@ -404,57 +398,57 @@ module _ (value w : ℕ) (leb' big : Bool) (out : List ℕ) where
         let p : x ≡ the-bytes ++ drop w out = did.left ∙ ap (λ b. pick b (the-bytes ++ drop w out) (unfit leb' w out)) (sym did.told ∙ t) in
         record {
           size = s;
-          fine = λ _ _. (ap To (sym n), p ∙ ap (λ m. the-bytes ++ drop m out) (sym n));
+          fine = λ _ _. (ap Ok (sym n), p ∙ ap (λ m. the-bytes ++ drop m out) (sym n));
           no = λ _ k. absurd (k z);
         }
 
-    pub number-no : r ≡ false → Wide leb' w → Emits (number_refusal code value) the-bytes out (Refused 9) x
+    pub number-no : r ≡ false → Wide leb' w → Emits (number_refusal code value) the-bytes out (Err 9) x
     unfolding number_refusal pick
     number-no t h =
         let nine : length the-bytes ≤ length out → number_refusal code value ≡ 9 = (λ room. ap (λ b. pick b 0 9) (sym (answered h (omega (arith, the-length h))) ∙ t)) in
         record {
           size = s;
           fine = λ room z. (let q : number_refusal code value ≡ 9 = nine room in absurd (omega arith));
-          no = λ room _. ap Refused (sym (nine room));
+          no = λ room _. ap Err (sym (nine room));
         }
 
 -- ---- offsets
 
-mapped-some : (o : Option ℕ) (value : UnitOffset) → Mapped' value ≡ as_mapped o → o ≡ Some value.0
+mapped-some : (o : Option ℕ) (value : UnitOffset) → Some value ≡ as_mapped o → o ≡ Some value.0
 unfolding as_mapped
 mapped-some None value h = let z : ◌≡◌ {A = ℕ} 0 1 = cc in absurd (omega arith)
 mapped-some (Some n) value h = let z : value ≡ record { 0 = n } = cc in ap (λ (y : UnitOffset). Some y.0) (sym z)
 
-mapped-none : (o : Option ℕ) → Nothing ≡ as_mapped o → o ≡ None
+mapped-none : (o : Option ℕ) → None ≡ as_mapped o → o ≡ None
 unfolding as_mapped
 mapped-none None h = refl
 mapped-none (Some n) h = let z : ◌≡◌ {A = ℕ} 0 1 = cc in absurd (omega arith)
 
-module _ (new : Mapped) (w : ℕ) (leb' big : Bool) (out : List ℕ) where
-  pub offset-some : (value : UnitOffset) → new ≡ Mapped' value → (r : Emitted) (out' : List ℕ)
+module _ (new : Option UnitOffset) (w : ℕ) (leb' big : Bool) (out : List ℕ) where
+  pub offset-some : (value : UnitOffset) → new ≡ Some value → (r : Result ℕ ℕ) (out' : List ℕ)
       → (Wide leb' w → Emits (number_refusal (encoded_by leb' w) value.0) (number_bytes big (encoded_by leb' w) value.0) out r out')
       → (o : Option ℕ) (v : ℕ) → new ≡ as_mapped o → Wide leb' w → Emits (offset_refusal (encoded_by leb' w) v o) (number_bytes big (encoded_by leb' w) (or_self v o)) out r out'
   unfolding offset_refusal or_self is_some pick
   offset-some value q r out' f o v p h =
       subst (λ z. Emits (offset_refusal (encoded_by leb' w) v z) (number_bytes big (encoded_by leb' w) (or_self v z)) out r out') (sym (mapped-some o value (sym q ∙ p))) (f h)
 
-  pub offset-none : new ≡ Nothing
-      → (o : Option ℕ) (v : ℕ) → new ≡ as_mapped o → Wide leb' w → Emits (offset_refusal (encoded_by leb' w) v o) (number_bytes big (encoded_by leb' w) (or_self v o)) out (Refused 8) out
+  pub offset-none : new ≡ None
+      → (o : Option ℕ) (v : ℕ) → new ≡ as_mapped o → Wide leb' w → Emits (offset_refusal (encoded_by leb' w) v o) (number_bytes big (encoded_by leb' w) (or_self v o)) out (Err 8) out
   unfolding offset_refusal or_self is_some pick
   offset-none q o v p h =
-      subst (λ z. Emits (offset_refusal (encoded_by leb' w) v z) (number_bytes big (encoded_by leb' w) (or_self v z)) out (Refused 8) out) (sym (mapped-none o (sym q ∙ p)))
+      subst (λ z. Emits (offset_refusal (encoded_by leb' w) v z) (number_bytes big (encoded_by leb' w) (or_self v z)) out (Err 8) out) (sym (mapped-none o (sym q ∙ p)))
       (record { size = refl; fine = λ _ z. absurd (let q : ◌≡◌ {A = ℕ} 8 0 = z in omega arith); no = λ _ _. refl })
 
 -- ---- indices
 
-module _ (list : List ℕ) (count : ListCount) (value : ℕ) where
-  pub index-rank : (n : ℕ) → count ≡ Present n → (r : ℕ) → ((xs : List ℕ) → ListHeld xs list → n ≡ length xs → r ≡ rank_in xs value)
+module _ (list : List ℕ) (count : Option ℕ) (value : ℕ) where
+  pub index-rank : (n : ℕ) → count ≡ Some n → (r : ℕ) → ((xs : List ℕ) → ListHeld xs list → n ≡ length xs → r ≡ rank_in xs value)
       → (o : Option (List ℕ)) → Lent o list count → r ≡ rank_or o value
   unfolding Lent rank_or
   index-rank n q r f None h = absurd (subst (Lent None list) q h)
   index-rank n q r f (Some xs) h = let k : ListHeld xs list × (n ≡ length xs) = subst (Lent (Some xs) list) q h in f xs k.0 k.1
 
-  pub index-self : count ≡ Absent → (o : Option (List ℕ)) → Lent o list count → value ≡ rank_or o value
+  pub index-self : count ≡ None → (o : Option (List ℕ)) → Lent o list count → value ≡ rank_or o value
   unfolding Lent rank_or
   index-self q None h = refl
   index-self q (Some xs) h = absurd (subst (Lent (Some xs) list) q h)

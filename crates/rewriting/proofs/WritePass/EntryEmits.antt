@@ -3,7 +3,7 @@ use mathlib.Core.Path.{◌≡◌, refl, ap, ap₂, sym, ◌∙◌, subst}
 use Prim.Native.Nat.{ℕ, ◌+◌, ◌-◌, ◌≤◌, ◌<◌}
 use native.Mathlib.Omega.{arith}
 use mathlib.Core.Bool.{Bool, not}
-use Rattle.std.specs.Prelude.{None, Option, Some}
+use Rattle.std.specs.Prelude.{None, Option, Some, Err, Ok, Result}
 use Rattle.readers.specs.declared.abbreviations.SpecStep.{SpecStep}
 use mathlib.Core.List.{List, [], ◌∷◌, ◌++◌, append_assoc, append-nil}
 use mathlib.Core.Logic.{◌⊎◌, inl, inr, ⊎_elim}
@@ -39,8 +39,6 @@ use Rattle.readers.proofs.EntryAttributes.{Stepped, stepped}
 use Rattle.rewriting.specs.Places.{Place}
 use Rattle.rewriting.specs.Rewriting.{Lists, new_value, reads_refusal, pieces_refusal, or_next}
 use Rattle.rewriting.specs.Emission.{between}
-use Rattle.rewriting.specs.declared.emit_entry.Emitted.{Emitted}
-use Rattle.rewriting.specs.declared.emit_entry.Emitted.TheVariants.{To, Refused}
 use Rattle.rewriting.proofs.KeptPass.DeepReads.{Like, like-width, like-patched, TokenAsBytes, token-as-bytes, LayoutAsBytes, as_bytes_lem, TerminatorRead, EntryRead, deep-terminator, deep-entry, deep-inside}
 use Rattle.rewriting.proofs.WritePass.Emissions.{EmitsAt, emits_none, emits-as, emits_then, emits-stop}
 use Rattle.rewriting.proofs.WritePass.Splices.{next-zero}
@@ -246,7 +244,7 @@ pub record Entering (lists : Lists) (map : List Place) (depth : ℕ) (e : Encodi
   pub rest : List ℕ
   pub inside : from ≤ length unit
   pub deep : read_in (big e) (expression_in e) (specs_layout e (attributes_from abbreviations p)) (drop from unit) ≡ Some (reads, rest)
-  pub onward : (r : Emitted) (out' : List ℕ)
+  pub onward : (r : Result ℕ ℕ) (out' : List ℕ)
       → EmitsAt (reads_refusal lists map depth reads) (write_all (big e) (patch_all (new_value lists map depth) reads)) out to r out'
       → EmitsAt (reads_refusal lists map depth whole) (write_all (big e) (patch_all (new_value lists map depth) whole)) out₀ at r out'
 
@@ -263,11 +261,11 @@ entering-begin lists map depth e abbreviations unit whole out p from to after i 
 
 module _ (lists : Lists) (map : List Place) (depth : ℕ) (e : Encoding) (abbreviations unit : List ℕ) (whole : List Read) (out₀ : List ℕ) (at : ℕ) where
   module _ (out : List ℕ) (p from to : ℕ) (g : Entering lists map depth e abbreviations unit whole out₀ at out p from to) (y : Option EntryAttribute) (q : y ≡ next_attribute e abbreviations p unit from) where
-    pub entering-end : y ≡ None → EmitsAt (reads_refusal lists map depth whole) (write_all (big e) (patch_all (new_value lists map depth) whole)) out₀ at (To to) out
+    pub entering-end : y ≡ None → EmitsAt (reads_refusal lists map depth whole) (write_all (big e) (patch_all (new_value lists map depth) whole)) out₀ at (Ok to) out
     unfolding reads_refusal write_all patch_all
     entering-end h =
         let n : g.reads ≡ [] = none_left e abbreviations p unit from g.reads g.rest g.deep (sym q ∙ h) in
-        g.onward (To to) out (emits-as (ap (reads_refusal lists map depth) (sym n)) (ap (λ rs. write_all (big e) (patch_all (new_value lists map depth) rs)) (sym n)) (emits_none out to))
+        g.onward (Ok to) out (emits-as (ap (reads_refusal lists map depth) (sym n)) (ap (λ rs. write_all (big e) (patch_all (new_value lists map depth) rs)) (sym n)) (emits_none out to))
 
     module _ (x : EntryAttribute) (h : y ≡ Some x) where
       it : Taken e abbreviations p unit from x
@@ -304,14 +302,14 @@ module _ (lists : Lists) (map : List Place) (depth : ℕ) (e : Encoding) (abbrev
       mid-is : parts.mid ≡ drop x.values.at unit
       mid-is = took.1 ∙ drop-drop (length (write_all (big e) parts.one)) from unit ∙ ap (λ n. drop n unit) (sym its-end)
 
-      module _ (a : Emitted) (out₁ : List ℕ)
+      module _ (a : Result ℕ ℕ) (out₁ : List ℕ)
           (f : (rs : List Read) (rest : List ℕ) → from ≤ length unit → attribute_at e unit from x.name x.declared ≡ Some x.value
           → read_in (big e) (expression_in e) (attribute_layout e x.name x.declared) (drop from unit) ≡ Some (rs, rest)
           → EmitsAt (reads_refusal lists map depth rs) (write_all (big e) (patch_all (new_value lists map depth) rs)) out to a out₁) where
         here : EmitsAt (reads_refusal lists map depth parts.one) (write_all (big e) (patch_all (new_value lists map depth) parts.one)) out to a out₁
         here = f parts.one parts.mid g.inside its-value its-reads
 
-        together : (z : Emitted) (out₂ : List ℕ)
+        together : (z : Result ℕ ℕ) (out₂ : List ℕ)
             → EmitsAt (or_next (reads_refusal lists map depth parts.one) (reads_refusal lists map depth parts.others))
             (write_all (big e) (patch_all (new_value lists map depth) parts.one) ++ write_all (big e) (patch_all (new_value lists map depth) parts.others)) out to z out₂
             → EmitsAt (reads_refusal lists map depth whole) (write_all (big e) (patch_all (new_value lists map depth) whole)) out₀ at z out₂
@@ -322,14 +320,14 @@ module _ (lists : Lists) (map : List Place) (depth : ℕ) (e : Encoding) (abbrev
             (sym (ap (λ rs. write_all (big e) (patch_all (new_value lists map depth) rs)) parts.both ∙ written-append (big e) (new_value lists map depth) parts.one parts.others))
             k)
 
-        pub entering-refused : (k : ℕ) → a ≡ Refused k → EmitsAt (reads_refusal lists map depth whole) (write_all (big e) (patch_all (new_value lists map depth) whole)) out₀ at (Refused k) out₁
+        pub entering-refused : (k : ℕ) → a ≡ Err k → EmitsAt (reads_refusal lists map depth whole) (write_all (big e) (patch_all (new_value lists map depth) whole)) out₀ at (Err k) out₁
         entering-refused k w =
-            together (Refused k) out₁
+            together (Err k) out₁
             (emits-stop (reads_refusal lists map depth parts.one) (reads_refusal lists map depth parts.others)
             (write_all (big e) (patch_all (new_value lists map depth) parts.one)) (write_all (big e) (patch_all (new_value lists map depth) parts.others)) out to k out₁
             (subst (λ z. EmitsAt (reads_refusal lists map depth parts.one) (write_all (big e) (patch_all (new_value lists map depth) parts.one)) out to z out₁) w here))
 
-        pub entering-on : (to₁ : ℕ) → a ≡ To to₁ → Entering lists map depth e abbreviations unit whole out₀ at out₁ x.next.at x.values.at to₁
+        pub entering-on : (to₁ : ℕ) → a ≡ Ok to₁ → Entering lists map depth e abbreviations unit whole out₀ at out₁ x.next.at x.values.at to₁
         entering-on to₁ w =
             record {
               reads = parts.others;
@@ -451,14 +449,14 @@ module _ (e : Encoding) (abbreviations : List ℕ) (look : ℕ → Option Declar
         omega (arith, length-drop start unit)
 
     entering-start : (specs values : ℕ) → specs ≡ x.declaration.attributes.at → values ≡ x.values.at → (lists : Lists) (map : List Place) (depth : ℕ) (out : List ℕ) (at to : ℕ) (out₁ : List ℕ)
-        → (start ≤ values → values ≤ length unit → EmitsAt 0 (between unit start values) out at (To to) out₁)
+        → (start ≤ values → values ≤ length unit → EmitsAt 0 (between unit start values) out at (Ok to) out₁)
         → Entering lists map depth e abbreviations unit rs out at out₁ specs values to
     entering-start specs values p q lists map depth out at to out₁ f =
         let v : values ≡ start + coded.wide = q ∙ values-are in
         let s : specs ≡ coded.declaration.attributes.at = p ∙ ap (λ (y : Entry). y.declaration.attributes.at) entry-is in
         let i : values ≤ length unit = omega (arith, values-inside) in
         let code : List ℕ = take coded.wide (drop start unit) in
-        let first : EmitsAt 0 code out at (To to) out₁ = emits-as refl (ap (between unit start) v ∙ between-from unit start coded.wide) (f (omega arith) i) in
+        let first : EmitsAt 0 code out at (Ok to) out₁ = emits-as refl (ap (between unit start) v ∙ between-from unit start coded.wide) (f (omega arith) i) in
         record {
           reads = coded.others;
           rest = rest;
@@ -476,7 +474,7 @@ module _ (e : Encoding) (abbreviations : List ℕ) (look : ℕ → Option Declar
 
     -- what is said of the attributes after the code is said of the entry
     pub entry_done : (specs values : ℕ) → specs ≡ x.declaration.attributes.at → values ≡ x.values.at → (lists : Lists) (map : List Place) (depth : ℕ) (out : List ℕ) (at to : ℕ) (out₁ : List ℕ)
-        → (start ≤ values → values ≤ length unit → EmitsAt 0 (between unit start values) out at (To to) out₁) → (r : Emitted) (out₂ : List ℕ)
+        → (start ≤ values → values ≤ length unit → EmitsAt 0 (between unit start values) out at (Ok to) out₁) → (r : Result ℕ ℕ) (out₂ : List ℕ)
         → ((reads : List Read) (after : List ℕ) → values ≤ length unit → read_in (big e) (expression_in e) (specs_layout e (attributes_from abbreviations specs)) (drop values unit) ≡ Some (reads, after)
         → EmitsAt (reads_refusal lists map depth reads) (write_all (big e) (patch_all (new_value lists map depth) reads)) out₁ to r out₂)
         → EmitsAt (reads_refusal lists map depth rs) (write_all (big e) (patch_all (new_value lists map depth) rs)) out at r out₂

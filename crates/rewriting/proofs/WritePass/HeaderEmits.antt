@@ -20,7 +20,7 @@ use Rattle.rewriting.specs.Inner.Written.{bytes_fit, Put}
 use Rattle.readers.specs.Header.{length_bytes}
 use Rattle.rewriting.specs.Emission.{header_bytes, header_fits, header_count, header_over}
 use Rattle.rewriting.specs.Inner.Emission.{Within}
-use Rattle.rewriting.specs.declared.emit_entry.Emitted.TheVariants.{To}
+use Rattle.std.specs.Prelude.{Ok}
 use Rattle.rewriting.proofs.WritePass.Emissions.{and-true, put-home, part_length, within-to}
 use Rattle.rewriting.proofs.WritePass.Putting.{and_first, and_second, true-first, true-second, bytes-room, bytes_low, bytes-else, over-room}
 
@@ -134,11 +134,11 @@ module _ (e : Encoding) (unit : List ℕ) (first bytes : ℕ) where
     )
 
     -- never beyond the part
-    pub header-inside : (at : ℕ) (out₁ : List ℕ) → at ≡ header_count e unit first bytes out → out₁ ≡ header_over e unit first bytes out → Within out (To at) out₁
+    pub header-inside : (at : ℕ) (out₁ : List ℕ) → at ≡ header_count e unit first bytes out → out₁ ≡ header_over e unit first bytes out → Within out (Ok at) out₁
     unfolding header_count header_over pick
     header-inside at out₁ p q = by-fit (header_fits e unit first bytes out) refl p q
       where
-        by-fit : (b : Bool) → header_fits e unit first bytes out ≡ b → at ≡ pick b first 0 → out₁ ≡ pick b (header_bytes e unit first bytes ++ drop first out) out → Within out (To at) out₁
+        by-fit : (b : Bool) → header_fits e unit first bytes out ≡ b → at ≡ pick b first 0 → out₁ ≡ pick b (header_bytes e unit first bytes ++ drop first out) out → Within out (Ok at) out₁
         by-fit true f p q =
             let k : Fitting = fitting f in
             let h : first ≤ length out = k.in-out in

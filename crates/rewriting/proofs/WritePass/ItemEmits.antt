@@ -3,7 +3,7 @@ use mathlib.Core.Path.{◌≡◌, refl, ap, ap₂, sym, ◌∙◌, subst}
 use Prim.Native.Nat.{ℕ, ◌+◌, ◌≤◌, ◌<◌}
 use native.Mathlib.Omega.{arith}
 use mathlib.Core.Bool.{Bool, true, false}
-use Rattle.std.specs.Prelude.{Option, Some}
+use Rattle.std.specs.Prelude.{Option, Some, Err, None, Ok, Result}
 use Rattle.readers.specs.declared.abbreviations.Declaration.{Declaration}
 use Rattle.readers.specs.declared.entries.Step.{Step}
 use mathlib.Core.List.{List, [], ◌∷◌, ◌++◌, append-nil}
@@ -32,13 +32,9 @@ use Rattle.rewriting.specs.Rewriting.{Unit as Unit', Lists, items_in, reads_or, 
 use Rattle.rewriting.specs.Inner.NextKept.{open_kept, items_by, Stood, kept_at, NextItem, Answers}
 use Rattle.rewriting.specs.Inner.IndexLists.{ReadDeep, AllRead, PassInput}
 use Rattle.rewriting.specs.Emission.{between}
-use Rattle.rewriting.specs.declared.emit_entry.Emitted.{Emitted}
-use Rattle.rewriting.specs.declared.emit_entry.Emitted.TheVariants.{To, Refused}
 use Rattle.rewriting.specs.declared.kept_items.Reading.{Reading}
 use Rattle.rewriting.specs.declared.kept_items.PassPosition.{PassPosition}
 use Rattle.rewriting.specs.declared.kept_items.KeptItem.{KeptItem}
-use Rattle.rewriting.specs.declared.kept_items.KeptStep.{KeptStep}
-use Rattle.rewriting.specs.declared.kept_items.KeptStep.TheVariants.{Item as Item', End}
 use Rattle.rewriting.proofs.KeptPass.DeepReads.{TerminatorRead, deep-kind, deep-terminator, deep-entry}
 use Rattle.rewriting.proofs.WritePass.Emissions.{EmitsAt, emits_none, emits-as, emits_then, emits-stop}
 use Rattle.rewriting.proofs.WritePass.ValueParts.{between-from, copied-refusal, copied-written}
@@ -120,7 +116,7 @@ module _ (e : Encoding) (abbreviations : List ℕ) (look : ℕ → Option Declar
   terminator-refusal lists ps depth = ap (reads_refusal lists ps depth) alone ∙ copied-refusal lists ps depth head.code its-bytes head.pieces []
 
   -- its bytes are those of the unit, and nothing is refused
-  pub terminator-emits : (lists : Lists) (ps : List Place) (depth : ℕ) (out : List ℕ) (at : ℕ) (a : Emitted) (out₁ : List ℕ) → EmitsAt 0 (between unit start end) out at a out₁
+  pub terminator-emits : (lists : Lists) (ps : List Place) (depth : ℕ) (out : List ℕ) (at : ℕ) (a : Result ℕ ℕ) (out₁ : List ℕ) → EmitsAt 0 (between unit start end) out at a out₁
       → EmitsAt (reads_refusal lists ps depth rs) (write_all big (patch_all (new_value lists ps depth) rs)) out at a out₁
   terminator-emits lists ps depth out at a out₁ h =
       emits-as (sym (terminator-refusal lists ps depth))
@@ -136,10 +132,10 @@ module _ (r : Reading) (s table unit parents ends marks : List ℕ) (first : ℕ
   items at = items_by r s table unit at
 
   module _ (x : Sections) (u : Unit') (lists : Lists) (ps : List Place) where
-    abbrev pub Whole : List ℕ → Emitted → List ℕ → Type 0
+    abbrev pub Whole : List ℕ → Result ℕ ℕ → List ℕ → Type 0
     Whole out₀ z out' = EmitsAt (refusal_from x u lists ps (kept_from marks 0 [] (items_in x u))) (bytes_from x u lists ps (kept_from marks 0 [] (items_in x u))) out₀ 0 z out'
 
-    abbrev From : List NestedItem → List ℕ → ℕ → Emitted → List ℕ → Type 0
+    abbrev From : List NestedItem → List ℕ → ℕ → Result ℕ ℕ → List ℕ → Type 0
     From kept out to z out' = EmitsAt (refusal_from x u lists ps kept) (bytes_from x u lists ps kept) out to z out'
 
     -- a pass that has written what it met: what is said of the items from here on is said of all
@@ -147,7 +143,7 @@ module _ (r : Reading) (s table unit parents ends marks : List ℕ) (first : ℕ
       pub stack : List ℕ
       pub stood : Stood items parents ends t stack
       pub deep : AllRead x u (kept_at items parents ends marks t stack)
-      pub onward : (z : Emitted) (out' : List ℕ) → From (kept_at items parents ends marks t stack) out to z out' → Whole out₀ z out'
+      pub onward : (z : Result ℕ ℕ) (out' : List ℕ) → From (kept_at items parents ends marks t stack) out to z out' → Whole out₀ z out'
 
     module _ (p : PassInput x u r s table unit parents ends marks first) where
       pub writing_start : first ≡ u.header.first.0 → (out₀ : List ℕ) (n : Nesting) → n ≡ nesting_of [] → Writing out₀ (stand first 0 n) out₀ 0
@@ -161,14 +157,14 @@ module _ (r : Reading) (s table unit parents ends marks : List ℕ) (first : ℕ
                 subst (λ (is : List Item). From (kept_from marks 0 [] is) out₀ 0 z out') (ap items q ∙ items-are x u r s table unit p.read p.found) h;
           }
 
-      module _ (out₀ : List ℕ) (t : PassPosition) (out : List ℕ) (to : ℕ) (g : Writing out₀ t out to) (o : KeptStep) (a : Answers items parents ends marks unit t o) where
-        pub writing-end : o ≡ End → Whole out₀ (To to) out
+      module _ (out₀ : List ℕ) (t : PassPosition) (out : List ℕ) (to : ℕ) (g : Writing out₀ t out to) (o : Option KeptItem) (a : Answers items parents ends marks unit t o) where
+        pub writing-end : o ≡ None → Whole out₀ (Ok to) out
         unfolding refusal_from bytes_from
         writing-end q =
             let e : kept_at items parents ends marks t g.stack ≡ [] = next-end items parents ends marks unit t o a q g.stack g.stood in
-            g.onward (To to) out (subst (λ (kept : List NestedItem). From kept out to (To to) out) (sym e) (emits_none out to))
+            g.onward (Ok to) out (subst (λ (kept : List NestedItem). From kept out to (Ok to) out) (sym e) (emits_none out to))
 
-        module _ (y : KeptItem) (q : o ≡ Item' y) where
+        module _ (y : KeptItem) (q : o ≡ Some y) where
           next : NextItem items parents ends marks t g.stack y
           next = next-item items parents ends marks unit t o a y q g.stack g.stood
 
@@ -198,10 +194,10 @@ module _ (r : Reading) (s table unit parents ends marks : List ℕ) (first : ℕ
           step-here z h = sym (step-look r.encoding s look (declared_in u.declared) p.found unit y.start.0) ∙ h
 
           -- the emission of this item alone
-          abbrev Here : Emitted → List ℕ → Type 0
+          abbrev Here : Result ℕ ℕ → List ℕ → Type 0
           Here b out₁ = EmitsAt (reads_refusal lists ps y.depth reads) (write_all r.encoding.big_endian (patch_all (new_value lists ps y.depth) reads)) out to b out₁
 
-          together : (z : Emitted) (out' : List ℕ)
+          together : (z : Result ℕ ℕ) (out' : List ℕ)
               → EmitsAt (or_next (reads_refusal lists ps y.depth reads) (refusal_from x u lists ps others))
               (write_all r.encoding.big_endian (patch_all (new_value lists ps y.depth) reads) ++ bytes_from x u lists ps others) out to z out'
               → Whole out₀ z out'
@@ -217,13 +213,13 @@ module _ (r : Reading) (s table unit parents ends marks : List ℕ) (first : ℕ
               ∙ ap (λ (e : Encoding). write_all e.big_endian (patch_all (new_value lists ps next.standing.depth) (reads_at x u (offset_of next.standing.item))) ++ tail) (sym p.read.encoding_is))
               k))
 
-          module _ (b : Emitted) (out₁ : List ℕ) (f : Here b out₁) where
-            refused-here : (k : ℕ) → b ≡ Refused k → Whole out₀ (Refused k) out₁
+          module _ (b : Result ℕ ℕ) (out₁ : List ℕ) (f : Here b out₁) where
+            refused-here : (k : ℕ) → b ≡ Err k → Whole out₀ (Err k) out₁
             refused-here k w =
-                together (Refused k) out₁
-                (emits-stop _ (refusal_from x u lists ps others) _ (bytes_from x u lists ps others) out to k out₁ (subst (λ (z : Emitted). Here z out₁) w f))
+                together (Err k) out₁
+                (emits-stop _ (refusal_from x u lists ps others) _ (bytes_from x u lists ps others) out to k out₁ (subst (λ (z : Result ℕ ℕ). Here z out₁) w f))
 
-            on-here : (to₁ : ℕ) → b ≡ To to₁ → Writing out₀ y.next out₁ to₁
+            on-here : (to₁ : ℕ) → b ≡ Ok to₁ → Writing out₀ y.next out₁ to₁
             on-here to₁ w =
                 record {
                   stack = next.after;
@@ -231,11 +227,11 @@ module _ (r : Reading) (s table unit parents ends marks : List ℕ) (first : ℕ
                   deep = read_here.1;
                   onward = λ z out' k.
                       together z out'
-                      (emits_then _ (refusal_from x u lists ps others) _ (bytes_from x u lists ps others) out to to₁ out₁ z out' (subst (λ (z : Emitted). Here z out₁) w f) k);
+                      (emits_then _ (refusal_from x u lists ps others) _ (bytes_from x u lists ps others) out to to₁ out₁ z out' (subst (λ (z : Result ℕ ℕ). Here z out₁) w f) k);
                 }
 
           -- an entry
-          module _ (i : y.is_entry ≡ true) (b : Emitted) (out₁ : List ℕ)
+          module _ (i : y.is_entry ≡ true) (b : Result ℕ ℕ) (out₁ : List ℕ)
               (f : (look' : ℕ → Option Declaration) (z : Entry) (rs : List Read) (rest : List ℕ) → step_at r.encoding s look' unit y.start.0 ≡ Some (Entry' z) → y.specs ≡ z.declaration.attributes → y.values ≡ z.values
               → read_in r.encoding.big_endian (expression_in r.encoding) (entry_layout r.encoding s look') (drop y.start.0 unit) ≡ Some (rs, rest)
               → EmitsAt (reads_refusal lists ps y.depth rs) (write_all r.encoding.big_endian (patch_all (new_value lists ps y.depth) rs)) out to b out₁) where
@@ -244,20 +240,20 @@ module _ (r : Reading) (s table unit parents ends marks : List ℕ) (first : ℕ
                 let w = next-entry r.encoding s look unit parents ends marks t g.stack y next i in
                 f (declared_in u.declared) w.it reads read_here.0.run.1 (step-here (Some (Entry' w.it)) w.here) w.specs w.values deep-here
 
-            pub writing-refused : (k : ℕ) → b ≡ Refused k → Whole out₀ (Refused k) out₁
+            pub writing-refused : (k : ℕ) → b ≡ Err k → Whole out₀ (Err k) out₁
             writing-refused = refused-here b out₁ entry_here
 
-            pub writing-entry : (to₁ : ℕ) → b ≡ To to₁ → Writing out₀ y.next out₁ to₁
+            pub writing-entry : (to₁ : ℕ) → b ≡ Ok to₁ → Writing out₀ y.next out₁ to₁
             writing-entry = on-here b out₁ entry_here
 
           -- a terminator
-          pub writing-terminator : y.is_entry ≡ false → (to₁ : ℕ) (out₁ : List ℕ) → (y.start.0 ≤ y.end.at → y.end.at ≤ length unit → EmitsAt 0 (between unit y.start.0 y.end.at) out to (To to₁) out₁)
+          pub writing-terminator : y.is_entry ≡ false → (to₁ : ℕ) (out₁ : List ℕ) → (y.start.0 ≤ y.end.at → y.end.at ≤ length unit → EmitsAt 0 (between unit y.start.0 y.end.at) out to (Ok to₁) out₁)
               → Writing out₀ y.next out₁ to₁
           writing-terminator i to₁ out₁ f =
               let w = next-terminator r.encoding s look unit parents ends marks t g.stack y next i in
               let d = next-forward items parents ends marks unit t o a y q in
               let d1 : y.start.0 < y.end.at = d.1 in
-              on-here (To to₁) out₁
+              on-here (Ok to₁) out₁
               (terminator-emits r.encoding s (declared_in u.declared) unit y.start.0 y.end.at (step-here (Some (Terminator (cursor y.end.at))) w.here) reads read_here.0.run.1 deep-here
-              lists ps y.depth out to (To to₁) out₁ (f (omega arith) d.2))
+              lists ps y.depth out to (Ok to₁) out₁ (f (omega arith) d.2))
               to₁ refl

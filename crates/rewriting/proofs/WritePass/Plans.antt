@@ -15,7 +15,7 @@ use Rattle.readers.specs.EntryAttributes.{next_attribute}
 use Rattle.readers.proofs.EntryAttributes.{taken_none, taken_more, taken-last, taken-bad}
 use Rattle.readers.specs.declared.cursor.Encoding.{Encoding}
 use Rattle.readers.specs.declared.cursor.Cursor.{Cursor}
-use Rattle.std.specs.Prelude.{None, Option, Some}
+use Rattle.std.specs.Prelude.{None, Option, Some, Ok}
 use Rattle.readers.specs.declared.abbreviations.SpecStep.{SpecStep}
 use Rattle.readers.specs.declared.abbreviations.AttributeSpec.{AttributeSpec}
 use Rattle.readers.specs.declared.abbreviations.SpecStep.TheVariants.{Attribute as Spec, Last as LastSpec}
@@ -25,7 +25,6 @@ use Rattle.rewriting.specs.Places.{Place}
 use Rattle.rewriting.specs.Rewriting.{Lists}
 use Rattle.rewriting.specs.Emission.{between}
 use Rattle.rewriting.specs.Inner.Plans.{Copies, Copied, Planned}
-use Rattle.rewriting.specs.declared.emit_entry.Emitted.TheVariants.{To}
 use Rattle.rewriting.specs.declared.emit_entry.Plan.{Plan}
 use Rattle.rewriting.specs.declared.emit_entry.Plan.TheVariants.{Copy, Change, Over}
 use Rattle.rewriting.proofs.WritePass.Emissions.{EmitsAt}
@@ -100,14 +99,14 @@ module _ (e : Encoding) (abbreviations : List ℕ) (p : ℕ) (unit : List ℕ) (
 
   pub entering-copied : (lists : Lists) (map : List Place) (depth : ℕ) (whole : List Read) (out₀ : List ℕ) (at : ℕ) (out : List ℕ) (to : ℕ) → T (are_bytes unit)
       → Entering lists map depth e abbreviations unit whole out₀ at out p from to
-      → (to₁ : ℕ) (out₁ : List ℕ) → EmitsAt 0 (between unit from past.at) out to (To to₁) out₁
+      → (to₁ : ℕ) (out₁ : List ℕ) → EmitsAt 0 (between unit from past.at) out to (Ok to₁) out₁
       → Entering lists map depth e abbreviations unit whole out₀ at out₁ next.at past.at to₁
   entering-copied lists map depth whole out₀ at out to b g to₁ out₁ h =
       subst (λ (n : Cursor). Entering lists map depth e abbreviations unit whole out₀ at out₁ n.at past.at to₁) copied.next_is
       (subst (λ (c : Cursor). Entering lists map depth e abbreviations unit whole out₀ at out₁ copied.attribute.next.at c.at to₁) copied.past_is
-      (entering-on lists map depth e abbreviations unit whole out₀ at out p from to g (next_attribute e abbreviations p unit from) refl copied.attribute copied.is (To to₁) out₁
+      (entering-on lists map depth e abbreviations unit whole out₀ at out p from to g (next_attribute e abbreviations p unit from) refl copied.attribute copied.is (Ok to₁) out₁
       (λ rs rest i v d. attribute-whole e unit from copied.attribute.name copied.attribute.declared copied.attribute.value b i v rs rest d lists map depth copied.copies out to to₁ out₁
-      (subst (λ (n : ℕ). EmitsAt 0 (between unit from n) out to (To to₁) out₁) ends_there h))
+      (subst (λ (n : ℕ). EmitsAt 0 (between unit from n) out to (Ok to₁) out₁) ends_there h))
       to₁ refl))
 
 -- ---- as it is read

@@ -18,14 +18,12 @@ use Rattle.readers.specs.Numbers.{padded, little_bytes, ordered, fixed_bytes}
 use Rattle.readers.proofs.Numbers.{length-padded, length-fixed}
 use Rattle.rewriting.specs.Written.{groups_fit, padded_answer, padded_out, over, put_in, number_at, value_or, number_there}
 use Rattle.rewriting.specs.Inner.Written.{bytes_fit, number_fits, unfit, Put}
-use Rattle.rewriting.specs.declared.numbers.Padded.{Padded}
-use Rattle.rewriting.specs.declared.numbers.Padded.TheVariants.{Written, Refused}
 use Rattle.readers.specs.Layout.{number_bytes}
 use Rattle.readers.specs.References.{encoded_by}
 use Rattle.readers.specs.Cursors.{fixed_at}
 use Rattle.readers.proofs.Widths.{fixed-is}
 use Rattle.readers.specs.declared.cursor.Cursor.{Cursor}
-use Rattle.std.specs.Prelude.{None, Option, Some}
+use Rattle.std.specs.Prelude.{None, Option, Some, Err, Ok, Result}
 
 -- ---- from the start of a part
 
@@ -418,7 +416,7 @@ module _ (value width : ℕ) (out out' : List ℕ) (r : Bool) (p : Put (groups_f
   -- the number, and zeros for what stood behind it
   pub padded-written : r ≡ true → (rest after : List ℕ) → rest ≡ zeros (length (take (length out' - width) (drop width out')))
       → after ≡ take width out' ++ (rest ++ drop (length out' - width) (drop width out'))
-      → (Written ≡ padded_answer value width (length out)) × (after ≡ padded_out value width (length out))
+      → (Ok tt ≡ padded_answer value width (length out)) × (after ≡ padded_out value width (length out))
   unfolding pick padded_answer padded_out
   padded-written t rest after z q =
       let e : groups_fit value width (length out) ≡ true = groups-done t in
@@ -432,7 +430,7 @@ module _ (value width : ℕ) (out out' : List ℕ) (r : Bool) (p : Put (groups_f
       (rw e, rw e (q ∙ ap₂ (λ (x y : List ℕ). x ++ y) one two))
 
   pub padded-refused : r ≡ false → (after : List ℕ) → after ≡ zeros (length out')
-      → (Refused 15 ≡ padded_answer value width (length out)) × (after ≡ padded_out value width (length out))
+      → (Err 15 ≡ padded_answer value width (length out)) × (after ≡ padded_out value width (length out))
   unfolding pick padded_answer padded_out
   padded-refused t after z =
       let e : groups_fit value width (length out) ≡ false = sym p.told ∙ t in
@@ -440,30 +438,30 @@ module _ (value width : ℕ) (out out' : List ℕ) (r : Bool) (p : Put (groups_f
       (rw e, rw e (z ∙ ap (λ x. zeros (length x)) o))
 
 -- what `write_uleb128_padded` leaves in a part of exactly the number's width
-module _ (value width : ℕ) (answer : Padded) (x : List ℕ) (told : answer ≡ padded_answer value width width) (left : x ≡ padded_out value width width) where
-  padded-fit : answer ≡ Written → groups_fit value width width ≡ true
+module _ (value width : ℕ) (answer : Result (Unit {0}) ℕ) (x : List ℕ) (told : answer ≡ padded_answer value width width) (left : x ≡ padded_out value width width) where
+  padded-fit : answer ≡ Ok tt → groups_fit value width width ≡ true
   unfolding padded_answer pick
   padded-fit t = by-fit (groups_fit value width width) told
     where
-      by-fit : (b : Bool) → answer ≡ pick b Written (Refused 15) → b ≡ true
+      by-fit : (b : Bool) → answer ≡ pick b (Ok tt) (Err 15) → b ≡ true
       by-fit true q = refl
       by-fit false q = let z : ◌≡◌ {A = ℕ} 0 1 = cc in absurd (omega arith)
 
-  padded-unfit : (k : ℕ) → answer ≡ Refused k → groups_fit value width width ≡ false
+  padded-unfit : (k : ℕ) → answer ≡ Err k → groups_fit value width width ≡ false
   unfolding padded_answer pick
   padded-unfit k t = by-fit (groups_fit value width width) told
     where
-      by-fit : (b : Bool) → answer ≡ pick b Written (Refused 15) → b ≡ false
+      by-fit : (b : Bool) → answer ≡ pick b (Ok tt) (Err 15) → b ≡ false
       by-fit true q = let z : ◌≡◌ {A = ℕ} 0 1 = cc in absurd (omega arith)
       by-fit false q = refl
 
-  padded-whole : answer ≡ Written → x ≡ padded (width - 1) value
+  padded-whole : answer ≡ Ok tt → x ≡ padded (width - 1) value
   unfolding padded_out pick
   padded-whole t =
       left ∙ ap (λ b. pick b (padded (width - 1) value ++ zeros (width - width)) (zeros width)) (padded-fit t)
       ∙ ap (λ n. padded (width - 1) value ++ zeros n) (let z : width - width ≡ 0 = omega arith in z) ∙ append-nil (padded (width - 1) value)
 
-  padded-zeros : (k : ℕ) → answer ≡ Refused k → x ≡ zeros width
+  padded-zeros : (k : ℕ) → answer ≡ Err k → x ≡ zeros width
   unfolding padded_out pick
   padded-zeros k t = left ∙ ap (λ b. pick b (padded (width - 1) value ++ zeros (width - width)) (zeros width)) (padded-unfit k t)
 
@@ -480,7 +478,7 @@ module _ (leb' big : Bool) (value width : ℕ) (out : List ℕ) where
       let g : groups_fit value width (length out) ≡ false = groups-beyond value width (length out) h in
       record { told = rw e (sym g); left = rw e (rw g (rw w)) }
 
-  module _ (e : leb' ≡ true) (h : width ≤ length out) (n : ℕ) (same : n ≡ width) (answer : Padded) (x : List ℕ) (told : answer ≡ padded_answer value width n) (left : x ≡ padded_out value width n)
+  module _ (e : leb' ≡ true) (h : width ≤ length out) (n : ℕ) (same : n ≡ width) (answer : Result (Unit {0}) ℕ) (x : List ℕ) (told : answer ≡ padded_answer value width n) (left : x ≡ padded_out value width n)
       (after : List ℕ) (home : after ≡ x ++ drop width out) where
     told' : answer ≡ padded_answer value width width
     told' = told ∙ ap (padded_answer value width) same
@@ -488,14 +486,14 @@ module _ (leb' big : Bool) (value width : ℕ) (out : List ℕ) where
     left' : x ≡ padded_out value width width
     left' = left ∙ ap (padded_out value width) same
 
-    pub number-written : answer ≡ Written → Put (number_fits leb' value width (length out)) (number_bytes big (encoded_by leb' width) value) width out (unfit leb' width out) true after
+    pub number-written : answer ≡ Ok tt → Put (number_fits leb' value width (length out)) (number_bytes big (encoded_by leb' width) value) width out (unfit leb' width out) true after
     unfolding number_fits number_bytes encoded_by pick
     number-written t =
         let g : groups_fit value width (length out) ≡ true = sym (groups-room value width (length out) h) ∙ padded-fit value width answer x told' left' t in
         let a : after ≡ padded (width - 1) value ++ drop width out = home ∙ ap (λ l. l ++ drop width out) (padded-whole value width answer x told' left' t) in
         record { told = rw e (sym g); left = rw e (rw g a) }
 
-    pub number-zeros : (k : ℕ) → answer ≡ Refused k → Put (number_fits leb' value width (length out)) (number_bytes big (encoded_by leb' width) value) width out (unfit leb' width out) false after
+    pub number-zeros : (k : ℕ) → answer ≡ Err k → Put (number_fits leb' value width (length out)) (number_bytes big (encoded_by leb' width) value) width out (unfit leb' width out) false after
     unfolding number_fits unfit pick ◌and◌
     number-zeros k t =
         let w : leb width (length out) ≡ true = le-leb width (length out) h in

@@ -4,7 +4,7 @@ use mathlib.Core.Path.{◌≡◌, refl, ap, ap₂, sym, ◌∙◌, subst}
 use Prim.Native.Nat.{ℕ, suc, ◌+◌, ◌-◌, ◌≤◌, ◌<◌}
 use native.Mathlib.Omega.{arith}
 use mathlib.Core.Bool.{Bool, true, false, not}
-use Rattle.std.specs.Prelude.{None, Option, Some}
+use Rattle.std.specs.Prelude.{None, Option, Some, Err, Ok, Result}
 use mathlib.Core.List.{List, [], ◌∷◌, ◌++◌, append_assoc}
 use mathlib.Core.Logic.{⊎_elim}
 use lib.ListN.{length, take, drop, length-append, length-drop, take-append-drop}
@@ -26,9 +26,7 @@ use Rattle.rewriting.specs.Inner.Written.{as_mapped}
 use Rattle.rewriting.specs.Rewriting.{Lists, new_value, has_place, piece_refusal, pieces_refusal, or_next, or_self, is_some}
 use Rattle.rewriting.specs.Emission.{between}
 use Rattle.rewriting.specs.Inner.Emission.{Wide, number_refusal, offset_refusal}
-use Rattle.rewriting.specs.declared.emit_entry.Emitted.{Emitted}
-use Rattle.rewriting.specs.declared.emit_entry.Emitted.TheVariants.{To, Refused}
-use Rattle.rewriting.specs.declared.map.Mapped.{Mapped}
+use Rattle.readers.specs.declared.offsets.UnitOffset.{UnitOffset}
 use Rattle.rewriting.proofs.WritePass.Emissions.{EmitsAt, emits-as, emits_then, emits-stop}
 use Rattle.rewriting.proofs.MapPass.Exact.{Right, Rights, in_expression, Exactly, expression-exactly}
 
@@ -247,7 +245,7 @@ wide_of false w h q = h
 
 pub record Going (lists : Lists) (map : List Place) (depth : ℕ) (pieces : List Piece) (e : Encoding) (s out₀ : List ℕ) (at : ℕ) (out : List ℕ) (from verbatim to : ℕ) : Type 0 where
   pub places : InOrder verbatim (length s) (flat_from e s from)
-  pub onward : (r : Emitted) (out' : List ℕ)
+  pub onward : (r : Result ℕ ℕ) (out' : List ℕ)
       → EmitsAt (names_refusal lists map depth (flat_from e s from)) (splice lists map depth e.big_endian s verbatim (flat_from e s from)) out to r out'
       → EmitsAt (pieces_refusal lists map depth pieces) (bytes_of e.big_endian (patch_pieces (new_value lists map depth) pieces)) out₀ at r out'
 
@@ -275,13 +273,13 @@ module _ (lists : Lists) (map : List Place) (depth : ℕ) (pieces : List Piece) 
     none_left p = flat-next e s from ∙ ap (flat_by e s) (sym q ∙ p)
 
     pub going_end : y ≡ None → (to' : ℕ) (out' : List ℕ)
-        → (verbatim ≤ length s → length s ≤ length s → EmitsAt 0 (between s verbatim (length s)) out to (To to') out')
-        → EmitsAt (pieces_refusal lists map depth pieces) (bytes_of e.big_endian (patch_pieces (new_value lists map depth) pieces)) out₀ at (To to') out'
+        → (verbatim ≤ length s → length s ≤ length s → EmitsAt 0 (between s verbatim (length s)) out to (Ok to') out')
+        → EmitsAt (pieces_refusal lists map depth pieces) (bytes_of e.big_endian (patch_pieces (new_value lists map depth) pieces)) out₀ at (Ok to') out'
     unfolding InOrder names_refusal splice between
     going_end p to' out' f =
         let n : flat_from e s from ≡ [] = none_left p in
         let c : verbatim ≤ length s = subst (InOrder verbatim (length s)) n g.places in
-        g.onward (To to') out'
+        g.onward (Ok to') out'
         (emits-as (ap (names_refusal lists map depth) (sym n)) (take_all (length s - verbatim) (drop verbatim s) (omega (arith, length-drop verbatim s)) ∙ ap (splice lists map depth e.big_endian s verbatim) (sym n)) (f c (omega arith)))
 
     module _ (r : Reference) (p : y ≡ Some r) where
@@ -305,10 +303,10 @@ module _ (lists : Lists) (map : List Place) (depth : ℕ) (pieces : List Piece) 
       pub going-place : r.place + r.width ≤ length s
       going-place = let l : r.place + width code ≤ length s = where-it-is.1 in let w : width code ≡ r.width = is_wide in omega arith
 
-      module _ (to₁ : ℕ) (out₁ : List ℕ) (f : verbatim ≤ r.place → r.place ≤ length s → EmitsAt 0 (between s verbatim r.place) out to (To to₁) out₁)
-          (mapped : Mapped) (m : mapped ≡ as_mapped (new_of map r.target.0)) (a : Emitted) (out₂ : List ℕ)
+      module _ (to₁ : ℕ) (out₁ : List ℕ) (f : verbatim ≤ r.place → r.place ≤ length s → EmitsAt 0 (between s verbatim r.place) out to (Ok to₁) out₁)
+          (mapped : Option UnitOffset) (m : mapped ≡ as_mapped (new_of map r.target.0)) (a : Result ℕ ℕ) (out₂ : List ℕ)
           (h : (o : Option ℕ) (v : ℕ) → mapped ≡ as_mapped o → Wide r.leb r.width → EmitsAt (offset_refusal code v o) (number_bytes e.big_endian code (or_self v o)) out₁ to₁ a out₂) where
-        before-it : EmitsAt 0 (between s verbatim r.place) out to (To to₁) out₁
+        before-it : EmitsAt 0 (between s verbatim r.place) out to (Ok to₁) out₁
         before-it =
             let c : verbatim ≤ r.place = where-it-is.0 in
             let l : r.place + width code ≤ length s = where-it-is.1 in
@@ -324,7 +322,7 @@ module _ (lists : Lists) (map : List Place) (depth : ℕ) (pieces : List Piece) 
         it = h (new_of map r.target.0) r.target.0 m (wide_of r.leb r.width where-it-is.2 is_wide)
 
         -- what is said of it and the rest is said of the whole
-        together : (z : Emitted) (out₃ : List ℕ)
+        together : (z : Result ℕ ℕ) (out₃ : List ℕ)
             → EmitsAt (or_next (offset_refusal code r.target.0 (new_of map r.target.0)) (names_refusal lists map depth rest))
             (number_bytes e.big_endian code (new lists map depth r.target.0) ++ splice lists map depth e.big_endian s (r.place + width code) rest) out₁ to₁ z out₃
             → EmitsAt (pieces_refusal lists map depth pieces) (bytes_of e.big_endian (patch_pieces (new_value lists map depth) pieces)) out₀ at z out₃
@@ -336,14 +334,14 @@ module _ (lists : Lists) (map : List Place) (depth : ℕ) (pieces : List Piece) 
             (ap (splice lists map depth e.big_endian s verbatim) (sym one_more))
             (emits_then 0 _ (between s verbatim r.place) _ out to to₁ out₁ z out₃ before-it k))
 
-        pub going-refused : (k : ℕ) → a ≡ Refused k
-            → EmitsAt (pieces_refusal lists map depth pieces) (bytes_of e.big_endian (patch_pieces (new_value lists map depth) pieces)) out₀ at (Refused k) out₂
+        pub going-refused : (k : ℕ) → a ≡ Err k
+            → EmitsAt (pieces_refusal lists map depth pieces) (bytes_of e.big_endian (patch_pieces (new_value lists map depth) pieces)) out₀ at (Err k) out₂
         going-refused k w =
-            together (Refused k) out₂
+            together (Err k) out₂
             (emits-stop no (names_refusal lists map depth rest) its (splice lists map depth e.big_endian s (r.place + width code) rest) out₁ to₁ k out₂
             (subst (λ b. EmitsAt no its out₁ to₁ b out₂) w it))
 
-        pub going_on : (to₂ : ℕ) → a ≡ To to₂ → (copied' : ℕ) → (r.place + r.width ≤ length s → copied' ≡ r.place + r.width)
+        pub going_on : (to₂ : ℕ) → a ≡ Ok to₂ → (copied' : ℕ) → (r.place + r.width ≤ length s → copied' ≡ r.place + r.width)
             → Going lists map depth pieces e s out₀ at out₂ r.next.at copied' to₂
         going_on to₂ w copied' c =
             let k : r.place + width code ≡ copied' = sym (c going-place ∙ ap (λ n. r.place + n) (sym is_wide)) in

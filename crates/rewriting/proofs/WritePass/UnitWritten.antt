@@ -4,7 +4,7 @@ use Prim.Native.Nat.{ℕ, ◌+◌, ◌-◌, ◌*◌, ◌/◌, ◌^◌, ◌≤◌
 use native.Mathlib.Omega.{arith}
 use mathlib.Core.Bool.{true}
 use mathlib.Core.List.{List, [], ◌∷◌, ◌++◌, append_assoc}
-use Rattle.std.specs.Prelude.{None, Option, Some}
+use Rattle.std.specs.Prelude.{None, Option, Some, Err, Ok, Result}
 use mathlib.Core.Logic.{⊎_elim}
 use lib.ListN.{length, take, drop, length-append}
 use lib.Seq.{take_at, drop-append-add}
@@ -33,16 +33,11 @@ use Rattle.rewriting.specs.Inner.MapFilled.{Fills}
 use Rattle.readers.specs.Header.{length_bytes}
 use Rattle.rewriting.specs.Emission.{header_bytes, header_fits}
 use Rattle.rewriting.specs.Inner.Emission.{Lent, ListsLent}
-use Rattle.rewriting.specs.Outputs.{list_count, answer_for, map_for, output_for}
+use Rattle.rewriting.specs.Outputs.{Answer, list_count, answer_for, map_for, output_for}
 use Rattle.rewriting.specs.Inner.Leaving.{Accepts, Writable, WriteAnswer}
 use Rattle.rewriting.specs.declared.kept_items.Reading.{Reading}
 use Rattle.rewriting.specs.declared.offset_pass.Size.{Size}
-use Rattle.rewriting.specs.declared.lists.ListCount.{ListCount}
-use Rattle.rewriting.specs.declared.lists.ListCount.TheVariants.{Present, Absent}
-use Rattle.rewriting.specs.declared.emit_entry.Emitted.{Emitted}
-use Rattle.rewriting.specs.declared.emit_entry.Emitted.TheVariants.{To, Refused as NotEmitted}
-use Rattle.rewriting.specs.declared.collect.Collected.{Collected as Answer}
-use Rattle.rewriting.specs.declared.collect.Collected.TheVariants.{Rewritten, Refused}
+use Rattle.rewriting.specs.declared.collect.Collected.TheVariants.{Rewritten}
 use Rattle.rewriting.proofs.WritePass.Emissions.{EmitsAt}
 use Rattle.rewriting.proofs.KeptPass.DeepReads.{like-width, like-patched, deep-ends}
 use Rattle.rewriting.proofs.KeptPass.ItemDepths.{Every, every-kept, Stands, items-stand, StandsThere, deep_at, size-of}
@@ -105,14 +100,14 @@ out-is front body out out₁ out₂ first l z p q =
 
 -- ---- lists as they are lent, and a refusal
 
-lent-count : (o : Option (List ℕ)) (list : List ℕ) (c : ListCount) → Lent o list c → c ≡ list_count o
+lent-count : (o : Option (List ℕ)) (list : List ℕ) (c : Option ℕ) → Lent o list c → c ≡ list_count o
 unfolding Lent list_count
-lent-count None list Absent h = refl
-lent-count None list (Present n) h = absurd h
-lent-count (Some xs) list Absent h = absurd h
-lent-count (Some xs) list (Present n) h = ap (λ (k : ℕ). Present k) h.1
+lent-count None list None h = refl
+lent-count None list (Some n) h = absurd h
+lent-count (Some xs) list None h = absurd h
+lent-count (Some xs) list (Some n) h = ap (λ (k : ℕ). Some k) h.1
 
-write-refused : (c : Collected) (k map out : ℕ) (map' out' : List ℕ) → c ≡ refused k → WriteAnswer c (Refused k) map out map' out'
+write-refused : (c : Collected) (k map out : ℕ) (map' out' : List ℕ) → c ≡ refused k → WriteAnswer c (Err k) map out map' out'
 unfolding answer_for Accepts
 write-refused c k map out map' out' h =
     record { told = sym (ap answer_for h); map_left = λ a. absurd (subst Accepts h a); out_left = λ a. absurd (subst Accepts h a) }
@@ -150,7 +145,7 @@ module _ (x : Sections) (u : Unit') (lists : Lists) (room : Room) (entries kept 
 
 -- ---- the returns
 
-module _ (r : Reading) (s table unit parents ends marks : List ℕ) (first entries kept : ℕ) (rl : List ℕ) (rc : ListCount) (ll : List ℕ) (lc : ListCount) (sl : List ℕ) (sc : ListCount) (map out : List ℕ)
+module _ (r : Reading) (s table unit parents ends marks : List ℕ) (first entries kept : ℕ) (rl : List ℕ) (rc : Option ℕ) (ll : List ℕ) (lc : Option ℕ) (sl : List ℕ) (sc : Option ℕ) (map out : List ℕ)
     (z : Size) (m : Measures (items_by r s table unit) unit parents ends marks first z) (map' : List ℕ) (fills : Fills (items_by r s table unit) unit parents ends marks first map map') (as_long : length map' ≡ length map) where
   abbrev Goal : Answer → List ℕ → Type 0
   Goal a out' = (x : Sections) (u : Unit') (lists : Lists) (room : Room) → PassInput x u r s table unit parents ends marks first → ListsLent lists rl rc ll lc sl sc → Writable u room unit first map out
@@ -173,12 +168,12 @@ module _ (r : Reading) (s table unit parents ends marks : List ℕ) (first entri
         subst (λ (is : List Item). WriteAnswer (rewrite_of x room u entries kept lists (kept_from marks 0 [] is)) a (length map) (length out) map' out')
         (items-here true r s table unit parents ends marks first x u p w.first_is) h
 
-    no-map : length map' / place_size < z.places → WriteAnswer (rewrite_of x room u entries kept lists items) (Refused 13) (length map) (length out) map' out
+    no-map : length map' / place_size < z.places → WriteAnswer (rewrite_of x room u entries kept lists items) (Err 13) (length map) (length out) map' out
     no-map k =
         write-refused _ 13 (length map) (length out) map' out
         (case-map x u lists room entries kept items first w.first_is (let q : room.places < length items = omega (arith, w.places_are, places_are, as_long) in q))
 
-    no-out : z.places ≤ length map' / place_size → length out < z.bytes → WriteAnswer (rewrite_of x room u entries kept lists items) (Refused 14) (length map) (length out) map' out
+    no-out : z.places ≤ length map' / place_size → length out < z.bytes → WriteAnswer (rewrite_of x room u entries kept lists items) (Err 14) (length map) (length out) map' out
     no-out k b =
         write-refused _ 14 (length map) (length out) map' out
         (case-out x u lists room entries kept items first w.first_is (let q : length items ≤ room.places = omega (arith, w.places_are, places_are, as_long) in q)
@@ -188,7 +183,7 @@ module _ (r : Reading) (s table unit parents ends marks : List ℕ) (first entri
         (bounds : List ℕ) (bounded : (ps : List Place) → MapHeld ps map' → z.places ≡ length ps → Bounds ps bounds)
         (same : length out₁ ≡ length out)
         (at : ℕ) (headed : header_fits r.encoding unit first z.bytes out ≡ true → (at ≡ first) × (out₁ ≡ put out 0 (header_bytes r.encoding unit first z.bytes)))
-        (emitted : Emitted)
+        (emitted : Result ℕ ℕ)
         (emits : (x : Sections) (u : Unit') (lists : Lists) (ps : List Place) → PassInput x u r s table unit parents ends marks first → first ≡ u.header.first.0
         → MapHeld ps map' → z.places ≡ length ps → Bounds ps bounds → ListsLent lists rl rc ll lc sl sc
         → EmitsAt (refusal_from x u lists ps (kept_from marks 0 [] (items_in x u))) (bytes_from x u lists ps (kept_from marks 0 [] (items_in x u))) out₁ at emitted out₂) where
@@ -260,14 +255,14 @@ module _ (r : Reading) (s table unit parents ends marks : List ℕ) (first entri
       enough-bytes = omega (arith, w.bytes_are, bytes_are)
 
       -- refused
-      not_written : (k : ℕ) → emitted ≡ NotEmitted k → WriteAnswer (rewrite_of x room u entries kept lists items) (Refused k) (length map) (length out) map' out₂
+      not_written : (k : ℕ) → emitted ≡ Err k → WriteAnswer (rewrite_of x room u entries kept lists items) (Err k) (length map) (length out) map' out₂
       not_written k q =
           ⊎_elim
-          (λ t. let y : NotEmitted k ≡ To (first + length body) = sym q ∙ (it.fine room_out (eqb_yes {a = refusal_from x u lists ps items} {b = 0} t)).0 in
+          (λ t. let y : Err k ≡ Ok (first + length body) = sym q ∙ (it.fine room_out (eqb_yes {a = refusal_from x u lists ps items} {b = 0} t)).0 in
           let v : ◌≡◌ {A = ℕ} 0 1 = cc in absurd (omega arith))
           (λ t.
           let n : refusal_from x u lists ps items ≡ 0 → ⊥ = eqb_no {a = refusal_from x u lists ps items} {b = 0} t in
-          let y : NotEmitted k ≡ NotEmitted (refusal_from x u lists ps items) = sym q ∙ it.no room_out n in
+          let y : Err k ≡ Err (refusal_from x u lists ps items) = sym q ∙ it.no room_out n in
           let v : k ≡ refusal_from x u lists ps items = cc in
           write-refused _ k (length map) (length out) map' out₂
           (case-no x u lists room entries kept items first w.first_is enough enough-bytes n ∙ ap (λ (j : ℕ). refused j) (sym v)))
@@ -292,16 +287,16 @@ module _ (r : Reading) (s table unit parents ends marks : List ℕ) (first entri
           ∙ ap (λ (n : ℕ). map_bytes ps ++ zeros n)
           (let q : length map - place_size * length items ≡ length map - length (run_bytes number_size (columns ps)) = omega (arith, length_run number_size (columns ps), length-columns ps, length-places first items) in q)
 
-      is-written : (to : ℕ) → emitted ≡ To to → refusal_from x u lists ps items ≡ 0
+      is-written : (to : ℕ) → emitted ≡ Ok to → refusal_from x u lists ps items ≡ 0
       is-written to q =
           ⊎_elim (λ t. eqb_yes {a = refusal_from x u lists ps items} {b = 0} t)
-          (λ t. let y : To to ≡ NotEmitted (refusal_from x u lists ps items) = sym q ∙ it.no room_out (eqb_no {a = refusal_from x u lists ps items} {b = 0} t) in
+          (λ t. let y : Ok to ≡ Err (refusal_from x u lists ps items) = sym q ∙ it.no room_out (eqb_no {a = refusal_from x u lists ps items} {b = 0} t) in
           let v : ◌≡◌ {A = ℕ} 0 1 = cc in absurd (omega arith))
           (either (eqb (refusal_from x u lists ps items) 0))
 
-      was-written : (to : ℕ) → emitted ≡ To to
+      was-written : (to : ℕ) → emitted ≡ Ok to
           → WriteAnswer (rewrite_of x room u entries kept lists items)
-          (Rewritten (record { entries = entries; kept = kept; places = z.places; bytes = z.bytes; ranges = rc; locations = lc; strings = sc })) (length map) (length out) map' out₂
+          (Ok (Ok (Rewritten (record { entries = entries; kept = kept; places = z.places; bytes = z.bytes; ranges = rc; locations = lc; strings = sc })))) (length map) (length out) map' out₂
       unfolding answer_for map_for output_for pad_to
       was-written to q =
           let n : refusal_from x u lists ps items ≡ 0 = is-written to q in
@@ -311,32 +306,32 @@ module _ (r : Reading) (s table unit parents ends marks : List ℕ) (first entri
           let pl : length ps ≡ z.places = length-places first items ∙ sym places_are in
           record {
             told =
-                ap (λ (v : ℕ). Rewritten (record { entries = entries; kept = kept; places = v; bytes = z.bytes; ranges = rc; locations = lc; strings = sc })) (sym pl)
-                ∙ ap (λ (v : ℕ). Rewritten (record { entries = entries; kept = kept; places = length ps; bytes = v; ranges = rc; locations = lc; strings = sc })) (sym ub)
-                ∙ ap (λ (v : ListCount). Rewritten (record { entries = entries; kept = kept; places = length ps; bytes = length (unit_bytes x u lists ps items); ranges = v; locations = lc; strings = sc })) (lent-count lists.ranges rl rc l.those_ranges)
-                ∙ ap (λ (v : ListCount). Rewritten (record { entries = entries; kept = kept; places = length ps; bytes = length (unit_bytes x u lists ps items); ranges = list_count lists.ranges; locations = v; strings = sc })) (lent-count lists.locations ll lc l.those_locations)
-                ∙ ap (λ (v : ListCount). Rewritten (record { entries = entries; kept = kept; places = length ps; bytes = length (unit_bytes x u lists ps items); ranges = list_count lists.ranges; locations = list_count lists.locations; strings = v })) (lent-count lists.strings sl sc l.those_strings)
+                ap (λ (v : ℕ). Ok (Ok (Rewritten (record { entries = entries; kept = kept; places = v; bytes = z.bytes; ranges = rc; locations = lc; strings = sc })))) (sym pl)
+                ∙ ap (λ (v : ℕ). Ok (Ok (Rewritten (record { entries = entries; kept = kept; places = length ps; bytes = v; ranges = rc; locations = lc; strings = sc })))) (sym ub)
+                ∙ ap (λ (v : Option ℕ). Ok (Ok (Rewritten (record { entries = entries; kept = kept; places = length ps; bytes = length (unit_bytes x u lists ps items); ranges = v; locations = lc; strings = sc })))) (lent-count lists.ranges rl rc l.those_ranges)
+                ∙ ap (λ (v : Option ℕ). Ok (Ok (Rewritten (record { entries = entries; kept = kept; places = length ps; bytes = length (unit_bytes x u lists ps items); ranges = list_count lists.ranges; locations = v; strings = sc })))) (lent-count lists.locations ll lc l.those_locations)
+                ∙ ap (λ (v : Option ℕ). Ok (Ok (Rewritten (record { entries = entries; kept = kept; places = length ps; bytes = length (unit_bytes x u lists ps items); ranges = list_count lists.ranges; locations = list_count lists.locations; strings = v })))) (lent-count lists.strings sl sc l.those_strings)
                 ∙ sym (ap answer_for c);
             map_left = λ _. map-there ∙ sym (ap (map_for (length map)) c);
             out_left = λ _. out-is front body out out₁ out₂ first length_front w.out_blank header-there.1 (it.fine room_out n).1 ∙ ap (pad_to (length out)) (sym unit-bytes-are) ∙ sym (ap (output_for (length out)) c);
           }
 
-  pub map-short : length map' / place_size < z.places → Goal (Refused 13) out
-  map-short k x u lists room p l w = by-items x u lists room p l w (Refused 13) out (no-map x u lists room p l w k)
+  pub map-short : length map' / place_size < z.places → Goal (Err 13) out
+  map-short k x u lists room p l w = by-items x u lists room p l w (Err 13) out (no-map x u lists room p l w k)
 
-  pub out-short : z.places ≤ length map' / place_size → length out < z.bytes → Goal (Refused 14) out
-  out-short k b x u lists room p l w = by-items x u lists room p l w (Refused 14) out (no-out x u lists room p l w k b)
+  pub out-short : z.places ≤ length map' / place_size → length out < z.bytes → Goal (Err 14) out
+  out-short k b x u lists room p l w = by-items x u lists room p l w (Err 14) out (no-out x u lists room p l w k b)
 
   module _ (few : z.places ≤ length map' / place_size) (less : z.bytes ≤ length out) (out₁ out₂ : List ℕ)
       (bounds : List ℕ) (bounded : (ps : List Place) → MapHeld ps map' → z.places ≡ length ps → Bounds ps bounds)
       (same : length out₁ ≡ length out)
       (at : ℕ) (headed : header_fits r.encoding unit first z.bytes out ≡ true → (at ≡ first) × (out₁ ≡ put out 0 (header_bytes r.encoding unit first z.bytes)))
-      (emitted : Emitted)
+      (emitted : Result ℕ ℕ)
       (emits : (x : Sections) (u : Unit') (lists : Lists) (ps : List Place) → PassInput x u r s table unit parents ends marks first → first ≡ u.header.first.0
       → MapHeld ps map' → z.places ≡ length ps → Bounds ps bounds → ListsLent lists rl rc ll lc sl sc
       → EmitsAt (refusal_from x u lists ps (kept_from marks 0 [] (items_in x u))) (bytes_from x u lists ps (kept_from marks 0 [] (items_in x u))) out₁ at emitted out₂) where
-    pub unit-written : (to : ℕ) → emitted ≡ To to → Goal (Rewritten (record { entries = entries; kept = kept; places = z.places; bytes = z.bytes; ranges = rc; locations = lc; strings = sc })) out₂
+    pub unit-written : (to : ℕ) → emitted ≡ Ok to → Goal (Ok (Ok (Rewritten (record { entries = entries; kept = kept; places = z.places; bytes = z.bytes; ranges = rc; locations = lc; strings = sc })))) out₂
     unit-written to q x u lists room p l w = by-items x u lists room p l w _ out₂ (was-written x u lists room p l w few less out₁ out₂ bounds bounded same at headed emitted emits to q)
 
-    pub unit-refused : (k : ℕ) → emitted ≡ NotEmitted k → Goal (Refused k) out₂
+    pub unit-refused : (k : ℕ) → emitted ≡ Err k → Goal (Err k) out₂
     unit-refused k q x u lists room p l w = by-items x u lists room p l w _ out₂ (not_written x u lists room p l w few less out₁ out₂ bounds bounded same at headed emitted emits k q)

@@ -3,7 +3,7 @@ use mathlib.Core.Path.{◌≡◌, refl, ap, ap₂, sym, ◌∙◌, subst}
 use Prim.Native.Nat.{ℕ, suc, ◌+◌, ◌-◌, ◌≤◌}
 use native.Mathlib.Omega.{arith}
 use mathlib.Core.Bool.{Bool, false}
-use Rattle.std.specs.Prelude.{Option, Some}
+use Rattle.std.specs.Prelude.{Option, Some, Ok, Result}
 use mathlib.Core.List.{List, [], ◌∷◌, ◌++◌, append_assoc, append-nil}
 use lib.ListN.{length, take, drop, length-append}
 use lib.Seq.{length-take-le, take_at, drop-drop}
@@ -32,9 +32,7 @@ use Rattle.rewriting.specs.Inner.Written.{as_mapped}
 use Rattle.rewriting.specs.Rewriting.{Lists, new_value, has_place, piece_refusal, pieces_refusal, reads_refusal, or_next, or_self, list_at}
 use Rattle.rewriting.specs.Emission.{between}
 use Rattle.rewriting.specs.Inner.Emission.{Wide, number_refusal, offset_refusal, leb_form}
-use Rattle.rewriting.specs.declared.emit_entry.Emitted.{Emitted}
-use Rattle.rewriting.specs.declared.emit_entry.Emitted.TheVariants.{To}
-use Rattle.rewriting.specs.declared.map.Mapped.{Mapped}
+use Rattle.readers.specs.declared.offsets.UnitOffset.{UnitOffset}
 use Rattle.rewriting.proofs.WritePass.Emissions.{EmitsAt, emits-as, emits_then}
 use Rattle.rewriting.proofs.MapPass.Exact.{token_ok, Right, Rights, ExactReader, Exactly, TokenExact, number-exact, token-exact, are-drop}
 use Rattle.rewriting.proofs.WritePass.Splices.{next-zero, absolute-none, reference-refusal, Sound, fit-sound, wide_of}
@@ -192,8 +190,8 @@ module _ (e : Encoding) (unit : List ℕ) (values name : ℕ) (value : Attribute
         ∙ ap (between unit w.o) (sym copied-end)
 
     pub copied-whole : (lists : Lists) (map : List Place) (depth : ℕ) (out : List ℕ) (at to₂ : ℕ) (out₂ : List ℕ)
-        → EmitsAt 0 (between unit values value.field.end) out at (To to₂) out₂
-        → EmitsAt (reads_refusal lists map depth rs) (write_all big (patch_all (new_value lists map depth) rs)) out at (To to₂) out₂
+        → EmitsAt 0 (between unit values value.field.end) out at (Ok to₂) out₂
+        → EmitsAt (reads_refusal lists map depth rs) (write_all big (patch_all (new_value lists map depth) rs)) out at (Ok to₂) out₂
     copied-whole lists map depth out at to₂ out₂ h =
         emits-as (sym (w.refused lists map depth ∙ stay-refusal lists map depth w.v.pieces exactly.1))
         (sym (w.written (new_value lists map depth)
@@ -202,13 +200,13 @@ module _ (e : Encoding) (unit : List ℕ) (values name : ℕ) (value : Attribute
         h
 
   module _ (out : List ℕ) (at to : ℕ) (out₁ : List ℕ)
-      (first : values ≤ value.field.start → value.field.start ≤ length unit → EmitsAt 0 (between unit values value.field.start) out at (To to) out₁)
+      (first : values ≤ value.field.start → value.field.start ≤ length unit → EmitsAt 0 (between unit values value.field.start) out at (Ok to) out₁)
       (lists : Lists) (map : List Place) (depth : ℕ) where
-    abbrev Whole : Emitted → List ℕ → Type 0
+    abbrev Whole : Result ℕ ℕ → List ℕ → Type 0
     Whole r out₂ = EmitsAt (reads_refusal lists map depth rs) (write_all big (patch_all (new_value lists map depth) rs)) out at r out₂
 
     -- what stands before the payload, and then the rest
-    after-start : (n : ℕ) (bytes : List ℕ) (r : Emitted) (out₂ : List ℕ) → n ≡ pieces_refusal lists map depth w.v.pieces
+    after-start : (n : ℕ) (bytes : List ℕ) (r : Result ℕ ℕ) (out₂ : List ℕ) → n ≡ pieces_refusal lists map depth w.v.pieces
         → between unit values value.field.start ++ bytes ≡ between unit values w.o ++ bytes_of big (patch_pieces (new_value lists map depth) w.v.pieces)
         → EmitsAt n bytes out₁ to r out₂ → Whole r out₂
     after-start n bytes r out₂ p q h =
@@ -262,7 +260,7 @@ module _ (e : Encoding) (unit : List ℕ) (values name : ℕ) (value : Attribute
       its-pieces : w.v.pieces ≡ verbatim (take k there) ∷ read_of.pieces
       its-pieces = ap (λ (y : Read). y.pieces) read_of.is
 
-      pub expression-emits : (part : List ℕ) → part ≡ part_of unit value.field → (r : Emitted) (out₂ : List ℕ)
+      pub expression-emits : (part : List ℕ) → part ≡ part_of unit value.field → (r : Result ℕ ℕ) (out₂ : List ℕ)
           → ((pieces : List Piece) → expression_in e part ≡ Some pieces → EmitsAt (pieces_refusal lists map depth pieces) (bytes_of big (patch_pieces (new_value lists map depth) pieces)) out₁ to r out₂)
           → Whole r out₂
       unfolding bytes_of piece_bytes patch_pieces patch_piece
@@ -326,7 +324,7 @@ module _ (e : Encoding) (unit : List ℕ) (values name : ℕ) (value : Attribute
             wide_of leb' n (subst Sound (sym code_is) (fit-sound code the_number link-of.fit)) (ap width code_is ∙ sym n-is)
 
         link-emits : (z : ℕ) (v : ℕ) → z ≡ piece_refusal lists map depth (patchable code role the_number) → v ≡ new_value lists map depth role the_number
-            → (r : Emitted) (out₂ : List ℕ) → EmitsAt z (number_bytes big code v) out₁ to r out₂ → Whole r out₂
+            → (r : Result ℕ ℕ) (out₂ : List ℕ) → EmitsAt z (number_bytes big code v) out₁ to r out₂ → Whole r out₂
         unfolding bytes_of piece_bytes patch_pieces patch_piece
         link-emits z v y x r out₂ h =
             let ps : w.v.pieces ≡ patchable code role the_number ∷ [] = ap (λ (y : Read). y.pieces) link-of.is in
@@ -337,16 +335,16 @@ module _ (e : Encoding) (unit : List ℕ) (values name : ℕ) (value : Attribute
             ∙ ap (λ y. between unit values w.o ++ bytes_of big (patch_pieces (new_value lists map depth) y)) (sym ps))
             h
 
-        abbrev Offset : Option ℕ → Emitted → List ℕ → Type 0
+        abbrev Offset : Option ℕ → Result ℕ ℕ → List ℕ → Type 0
         Offset o r out₂ = EmitsAt (offset_refusal (encoded_by leb' n) value.field.value o) (number_bytes big (encoded_by leb' n) (or_self value.field.value o)) out₁ to r out₂
 
         offset-emits : (o : ℕ → Option ℕ) → ((v : ℕ) → piece_refusal lists map depth (patchable code role v) ≡ offset_refusal code v (o v)) → ((v : ℕ) → new_value lists map depth role v ≡ or_self v (o v))
-            → (r : Emitted) (out₂ : List ℕ) → Offset (o value.field.value) r out₂ → Whole r out₂
+            → (r : Result ℕ ℕ) (out₂ : List ℕ) → Offset (o value.field.value) r out₂ → Whole r out₂
         offset-emits o y x r out₂ h =
             link-emits (offset_refusal code the_number (o the_number)) (or_self the_number (o the_number)) (sym (y the_number)) (sym (x the_number)) r out₂
             (emits-as (ap₂ (λ (c : Encoded) (v : ℕ). offset_refusal c v (o v)) code_is link-value) (ap₂ (λ (c : Encoded) (v : ℕ). number_bytes big c (or_self v (o v))) code_is link-value) h)
 
-        pub index-emits : (k : ℕ) → role ≡ index k → (v : ℕ) → v ≡ rank_or (list_at lists k) value.field.value → (r : Emitted) (out₂ : List ℕ)
+        pub index-emits : (k : ℕ) → role ≡ index k → (v : ℕ) → v ≡ rank_or (list_at lists k) value.field.value → (r : Result ℕ ℕ) (out₂ : List ℕ)
             → (Wide leb' n → EmitsAt (number_refusal (encoded_by leb' n) v) (number_bytes big (encoded_by leb' n) v) out₁ to r out₂) → Whole r out₂
         unfolding new_value
         index-emits k y v x r out₂ h =
@@ -356,7 +354,7 @@ module _ (e : Encoding) (unit : List ℕ) (values name : ℕ) (value : Attribute
             (is ∙ ap (λ z. new_value lists map depth z the_number) (sym y)) r out₂
             (emits-as (ap (λ c. number_refusal c v) code_is) (ap (λ c. number_bytes big c v) code_is) (h link-wide))
 
-        pub reference-emits : role ≡ reference → (r : Emitted) (out₂ : List ℕ) (new : Mapped) → new ≡ as_mapped (new_of map value.field.value)
+        pub reference-emits : role ≡ reference → (r : Result ℕ ℕ) (out₂ : List ℕ) (new : Option UnitOffset) → new ≡ as_mapped (new_of map value.field.value)
             → ((o : Option ℕ) (v : ℕ) → new ≡ as_mapped o → Wide leb' n → EmitsAt (offset_refusal (encoded_by leb' n) v o) (number_bytes big (encoded_by leb' n) (or_self v o)) out₁ to r out₂)
             → Whole r out₂
         unfolding new_value
@@ -364,7 +362,7 @@ module _ (e : Encoding) (unit : List ℕ) (values name : ℕ) (value : Attribute
             offset-emits (new_of map) (λ v. ap (λ z. piece_refusal lists map depth (patchable code z v)) y ∙ reference-refusal lists map depth code v) (λ v. ap (λ z. new_value lists map depth z v) y) r out₂
             (h (new_of map value.field.value) value.field.value x link-wide)
 
-        pub sibling-emits : role ≡ sibling → (r : Emitted) (out₂ : List ℕ) (new : Mapped) → new ≡ as_mapped (sibling_of map depth value.field.value)
+        pub sibling-emits : role ≡ sibling → (r : Result ℕ ℕ) (out₂ : List ℕ) (new : Option UnitOffset) → new ≡ as_mapped (sibling_of map depth value.field.value)
             → ((o : Option ℕ) (v : ℕ) → new ≡ as_mapped o → Wide leb' n → EmitsAt (offset_refusal (encoded_by leb' n) v o) (number_bytes big (encoded_by leb' n) (or_self v o)) out₁ to r out₂)
             → Whole r out₂
         unfolding new_value
@@ -376,12 +374,12 @@ module _ (e : Encoding) (unit : List ℕ) (values name : ℕ) (value : Attribute
 
     module _ (u : T (token_ok only_absolute (form_number_is e name f))) (p : is_expression (form_number_is e name f) ≡ false) where
       pub copied-emits : (to₂ : ℕ) (out₂ : List ℕ)
-          → (value.field.start ≤ value.field.end → value.field.end ≤ length unit → EmitsAt 0 (between unit value.field.start value.field.end) out₁ to (To to₂) out₂)
-          → Whole (To to₂) out₂
+          → (value.field.start ≤ value.field.end → value.field.end ≤ length unit → EmitsAt 0 (between unit value.field.start value.field.end) out₁ to (Ok to₂) out₂)
+          → Whole (Ok to₂) out₂
       copied-emits to₂ out₂ h =
           let s : ℕ = value.field.start in
           let z : ℕ = value.field.end in
-          after-start 0 (between unit s z) (To to₂) out₂
+          after-start 0 (between unit s z) (Ok to₂) out₂
           (sym (stay-refusal lists map depth w.v.pieces (exactly u p).1))
           (between_join unit values s z start-after within.forward
           ∙ sym (between_join unit values w.o z w.after (omega (arith, within.after, within.forward)))

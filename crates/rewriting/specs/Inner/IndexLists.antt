@@ -19,8 +19,6 @@ use Rattle.rewriting.specs.Inner.NextKept.{items_by}
 use Rattle.rewriting.specs.Inner.Written.{ListHeld}
 use Rattle.rewriting.specs.Inner.Gathering.{Gathered, Filled}
 use Rattle.rewriting.specs.declared.kept_items.Reading.{Reading}
-use Rattle.rewriting.specs.declared.lists.ListCount.{ListCount}
-use Rattle.rewriting.specs.declared.lists.ListCount.TheVariants.{Present, Absent}
 use Rattle.readers.specs.Inner.Forms.{use_list}
 
 -- ---- the list of a number: 0 ranges, 1 locations, 2 strings; 3 for what is no index
@@ -96,14 +94,14 @@ Listing k r abbreviations table unit parents ends marks first list count after =
 unfoldable pub is_absent : Sections → Unit' → ℕ → List Item → Bool
 is_absent x u name items = pick (eqb name 0) false (any_declares x u name items)
 
-unfoldable pub ListAnswer : Option (List ℕ) → List ℕ → ListCount → List ℕ → Type 0
-ListAnswer None list Absent after = after ≡ list
-ListAnswer None list (Present n) after = ⊥
-ListAnswer (Some ys) list Absent after = ⊥
-ListAnswer (Some ys) list (Present n) after = Filled ys list n after
+unfoldable pub ListAnswer : Option (List ℕ) → List ℕ → Option ℕ → List ℕ → Type 0
+ListAnswer None list None after = after ≡ list
+ListAnswer None list (Some n) after = ⊥
+ListAnswer (Some ys) list None after = ⊥
+ListAnswer (Some ys) list (Some n) after = Filled ys list n after
 
 -- what is answered for a list that was gathered into zeros: absent, and zeros again, or its count
-abbrev pub Settles : Reading → List ℕ → List ℕ → List ℕ → ℕ → ℕ → ℕ → List ℕ → ListCount → List ℕ → Type 0
+abbrev pub Settles : Reading → List ℕ → List ℕ → List ℕ → ℕ → ℕ → ℕ → List ℕ → Option ℕ → List ℕ → Type 0
 Settles r abbreviations table unit first name count list c after =
     (x : Sections) (u : Unit') (ys list₀ : List ℕ) → ReadAs x u r abbreviations unit → TablesFound u r abbreviations table
     → list₀ ≡ zeros (length list) → Filled ys list₀ count list

@@ -1,5 +1,5 @@
 -- What `next_kept` answers: the next kept item of a unit, and how the pass through the kept items goes on.
-use Rattle.std.specs.Prelude.{ℕ, ◌≤◌, ◌<◌, ◌≡◌, Bool, true, false, List, [], ◌∷◌, length, eqb}
+use Rattle.std.specs.Prelude.{ℕ, ◌≤◌, ◌<◌, ◌≡◌, Bool, true, false, List, [], ◌∷◌, length, eqb, None, Option, Some}
 use Rattle.readers.specs.Choice.{pick}
 use Rattle.readers.specs.Nesting.{nesting_of}
 use Rattle.readers.specs.Inner.Nesting.{Chain}
@@ -13,8 +13,6 @@ use Rattle.rewriting.specs.Inner.Ends.{EndsHeld}
 use Rattle.rewriting.specs.declared.kept_items.Reading.{Reading}
 use Rattle.rewriting.specs.declared.kept_items.PassPosition.{PassPosition}
 use Rattle.rewriting.specs.declared.kept_items.KeptItem.{KeptItem}
-use Rattle.rewriting.specs.declared.kept_items.KeptStep.{KeptStep}
-use Rattle.rewriting.specs.declared.kept_items.KeptStep.TheVariants.{Item as Item', End}
 
 -- whether each open entry is kept
 unfoldable pub open_kept : List ℕ → List ℕ → List Bool
@@ -37,9 +35,9 @@ ShowsItem x (entry y) =
 ShowsItem x (terminator a b) = (x.is_entry ≡ false) × (x.start.0 ≡ a) × (x.end.at ≡ b)
 
 -- an item takes some bytes of the unit, and the pass goes on after it
-unfoldable pub Forward : List ℕ → ℕ → KeptStep → Type 0
-Forward unit at (Item' x) = (at ≤ x.start.0) × (x.start.0 < x.end.at) × (x.end.at ≤ length unit) × (x.next.at.at ≡ x.end.at)
-Forward unit at End = Unit {0}
+unfoldable pub Forward : List ℕ → ℕ → Option KeptItem → Type 0
+Forward unit at (Some x) = (at ≤ x.start.0) × (x.start.0 < x.end.at) × (x.end.at ≤ length unit) × (x.next.at.at ≡ x.end.at)
+Forward unit at None = Unit {0}
 
 module _ (items : ℕ → List Item) (parents ends : List ℕ) where
   -- a pass stands where these entries are open, the innermost first, and the columns hold the parents and the ends from here on
@@ -66,11 +64,11 @@ module _ (items : ℕ → List Item) (parents ends : List ℕ) where
       pub low : x.depth ≤ x.start.0
       pub stood : Stood x.next after
 
-    unfoldable pub Next : PassPosition → List ℕ → KeptStep → Type 0
-    Next s stack (Item' x) = NextItem s stack x
-    Next s stack End = kept_at s stack ≡ []
+    unfoldable pub Next : PassPosition → List ℕ → Option KeptItem → Type 0
+    Next s stack (Some x) = NextItem s stack x
+    Next s stack None = kept_at s stack ≡ []
 
     -- THE answer
-    pub record Answers (unit : List ℕ) (s : PassPosition) (r : KeptStep) : Type 0 where
+    pub record Answers (unit : List ℕ) (s : PassPosition) (r : Option KeptItem) : Type 0 where
       pub forward : Forward unit s.at.at r
       pub next : (stack : List ℕ) → Stood s stack → Next s stack r

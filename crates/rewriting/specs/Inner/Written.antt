@@ -5,8 +5,7 @@ use Rattle.marking.specs.Members.{Member}
 use Rattle.rewriting.specs.Ascending.{Ascending}
 use Rattle.rewriting.specs.Indices.{insert}
 use Rattle.rewriting.specs.Places.{Place, old_offsets}
-use Rattle.rewriting.specs.declared.map.Mapped.{Mapped}
-use Rattle.rewriting.specs.declared.map.Mapped.TheVariants.{To, Nothing}
+use Rattle.readers.specs.declared.offsets.UnitOffset.{UnitOffset}
 use Rattle.rewriting.specs.Written.{number_size, place_size, columns, groups_fit, run_bytes}
 
 unfoldable pub bytes_fit : ℕ → ℕ → ℕ → Bool
@@ -63,6 +62,6 @@ pub record MapHeld (ps : List Place) (bytes : List ℕ) : Type 0 where
   pub held : NumbersHeld number_size (columns ps) bytes
   pub ascending : Ascending (old_offsets ps)
 
-unfoldable pub as_mapped : Option ℕ → Mapped
-as_mapped None = Nothing
-as_mapped (Some n) = To (record { 0 = n })
+unfoldable pub as_mapped : Option ℕ → Option UnitOffset
+as_mapped None = None
+as_mapped (Some n) = Some (record { 0 = n })

@@ -1,5 +1,7 @@
 -- `analyse_entries` writes the rows one after the other, and answers what is analysed from the first entry on. The measure is what is left of the unit. Assumes nothing.
-use mathlib.Core.Path.{refl, sym, ◌∙◌}
+use Rattle.std.specs.Prelude.{Some}
+use Rattle.readers.proofs.Refusing.{refused-none, read_some, passed-on}
+use mathlib.Core.Path.{ap, refl, sym, ◌∙◌}
 use Prim.Native.Nat.{◌^◌, ◌<◌}
 use native.Mathlib.Omega.{arith}
 use Rattle.marking.specs.Analysis.{values_of_entry, base_of}
@@ -14,18 +16,18 @@ loop-x-init c = stage-start _ _ _ _ _ _ _ _ _ _ _ _ _ _ _ c.outside-nesting.ensu
     c.requires
 
 pub returns-then-count-entry_room : goal.returns-then-count-entry_room
-returns-then-count-entry_room c = head-full c.loop-x.invariant _ _ (head_step _ _ _ _ _ _ (entry-headed _ _ _ _ _ _ _ c.entry_head.ensures) _ c.in-Entry.is _ refl) _ c.refusal.ensures c.if-count-entry_room.true
+returns-then-count-entry_room c = head-full c.loop-x.invariant _ _ (head_step _ _ _ _ _ _ (entry-headed _ _ _ _ _ _ _ c.entry_head.ensures) _ ((read_some _ _ _ _ c.ok_or.ensures.value c.in_ok-x.was) ∙ ap Some ((read_some _ _ _ _ c.ok_or.ensures.value c.in_ok-x.was) ∙ ap Some c.in-Entry.is)) _ refl) _ c.refusal.ensures c.if-count-entry_room.true
 
 pub analyse_entry-requires : goal.analyse_entry-requires
 analyse_entry-requires c = c.requires.listed
 
-pub returns-in-Refused : goal.returns-in-Refused
+pub returns-in_err-root : goal.returns-in_err-root
 unfolding values_of_entry base_of
-returns-in-Refused c = head-refused c.loop-x.invariant _ _ (head_step _ _ _ _ _ _ (entry-headed _ _ _ _ _ _ _ c.entry_head.ensures) _ c.in-Entry.is _ refl) c.if-count-entry_room.false _ _ c.base_after-rnglists_base.ensures c.base_after-loclists_base.ensures _ c.analyse_entry.ensures.1 _ (sym c.in-Refused.is ∙ c.analyse_entry.ensures.0)
+returns-in_err-root c = passed-on _ _ c.from_residual-in_err-root.ensures.1 ∙ passed-on _ _ c.from_residual-in_err-root.ensures.1 ∙ head-refused c.loop-x.invariant _ _ (head_step _ _ _ _ _ _ (entry-headed _ _ _ _ _ _ _ c.entry_head.ensures) _ ((read_some _ _ _ _ c.ok_or.ensures.value c.in_ok-x.was) ∙ ap Some ((read_some _ _ _ _ c.ok_or.ensures.value c.in_ok-x.was) ∙ ap Some c.in-Entry.is)) _ refl) c.if-count-entry_room.false _ _ c.base_after-rnglists_base.ensures c.base_after-loclists_base.ensures _ c.analyse_entry.ensures.1 _ (sym c.in_err-root.was ∙ c.analyse_entry.ensures.0)
 
 pub returns-then-place-reference_room : goal.returns-then-place-reference_room
 unfolding values_of_entry base_of
-returns-then-place-reference_room c = head-over c.loop-x.invariant _ _ (head_step _ _ _ _ _ _ (entry-headed _ _ _ _ _ _ _ c.entry_head.ensures) _ c.in-Entry.is _ refl) c.if-count-entry_room.false _ _ c.base_after-rnglists_base.ensures c.base_after-loclists_base.ensures _ c.analyse_entry.ensures.1 _ _ _ (sym c.in-Found.is ∙ c.analyse_entry.ensures.0) c.if-place-reference_room.true
+returns-then-place-reference_room c = head-over c.loop-x.invariant _ _ (head_step _ _ _ _ _ _ (entry-headed _ _ _ _ _ _ _ c.entry_head.ensures) _ ((read_some _ _ _ _ c.ok_or.ensures.value c.in_ok-x.was) ∙ ap Some ((read_some _ _ _ _ c.ok_or.ensures.value c.in_ok-x.was) ∙ ap Some c.in-Entry.is)) _ refl) c.if-count-entry_room.false _ _ c.base_after-rnglists_base.ensures c.base_after-loclists_base.ensures _ c.analyse_entry.ensures.1 _ _ _ (sym c.in_ok-root.was ∙ c.analyse_entry.ensures.0) c.if-place-reference_room.true
 
 pub offset_bounds-offsets-count : goal.offset_bounds-offsets-count
 offset_bounds-offsets-count c = omega (arith, (let z : c.loop-x.count < 2 ^ 60 = omega (arith, c.if-count-entry_room.false, c.loop-x.invariant.few) in z))
@@ -51,22 +53,22 @@ bounds-reference_ends-count c = omega (arith, c.loop-x.invariant.ends-are.size, 
 pub overflow_add-count : goal.overflow_add-count
 overflow_add-count c = omega (arith, (let z : c.loop-x.count < 2 ^ 60 = omega (arith, c.if-count-entry_room.false, c.loop-x.invariant.few) in z))
 
-pub loop-x-smaller-in-Found : goal.loop-x-smaller-in-Found
+pub loop-x-smaller-in_ok-root : goal.loop-x-smaller-in_ok-root
 unfolding values_of_entry base_of
-loop-x-smaller-in-Found c = let a = head-ahead c.loop-x.invariant _ _ (head_step _ _ _ _ _ _ (entry-headed _ _ _ _ _ _ _ c.entry_head.ensures) _ c.in-Entry.is _ refl) c.if-count-entry_room.false _ _ c.base_after-rnglists_base.ensures c.base_after-loclists_base.ensures _ c.analyse_entry.ensures.1 _ _ _ (sym c.in-Found.is ∙ c.analyse_entry.ensures.0) in omega (arith, a.0, a.1)
+loop-x-smaller-in_ok-root c = let a = head-ahead c.loop-x.invariant _ _ (head_step _ _ _ _ _ _ (entry-headed _ _ _ _ _ _ _ c.entry_head.ensures) _ ((read_some _ _ _ _ c.ok_or.ensures.value c.in_ok-x.was) ∙ ap Some ((read_some _ _ _ _ c.ok_or.ensures.value c.in_ok-x.was) ∙ ap Some c.in-Entry.is)) _ refl) c.if-count-entry_room.false _ _ c.base_after-rnglists_base.ensures c.base_after-loclists_base.ensures _ c.analyse_entry.ensures.1 _ _ _ (sym c.in_ok-root.was ∙ c.analyse_entry.ensures.0) in omega (arith, a.0, a.1)
 
-pub loop-x-preserved-in-Found : goal.loop-x-preserved-in-Found
+pub loop-x-preserved-in_ok-root : goal.loop-x-preserved-in_ok-root
 unfolding values_of_entry base_of
-loop-x-preserved-in-Found c = head-entry c.loop-x.invariant _ _ (head_step _ _ _ _ _ _ (entry-headed _ _ _ _ _ _ _ c.entry_head.ensures) _ c.in-Entry.is _ refl) c.if-count-entry_room.false _ _ c.base_after-rnglists_base.ensures c.base_after-loclists_base.ensures _ c.analyse_entry.ensures.1 _ _ _ (sym c.in-Found.is ∙ c.analyse_entry.ensures.0) c.if-place-reference_room.false _ c.after_entry-nesting.ensures
+loop-x-preserved-in_ok-root c = head-entry c.loop-x.invariant _ _ (head_step _ _ _ _ _ _ (entry-headed _ _ _ _ _ _ _ c.entry_head.ensures) _ ((read_some _ _ _ _ c.ok_or.ensures.value c.in_ok-x.was) ∙ ap Some ((read_some _ _ _ _ c.ok_or.ensures.value c.in_ok-x.was) ∙ ap Some c.in-Entry.is)) _ refl) c.if-count-entry_room.false _ _ c.base_after-rnglists_base.ensures c.base_after-loclists_base.ensures _ c.analyse_entry.ensures.1 _ _ _ (sym c.in_ok-root.was ∙ c.analyse_entry.ensures.0) c.if-place-reference_room.false _ c.after_entry-nesting.ensures
 
 pub loop-x-smaller : goal.loop-x-smaller
-loop-x-smaller c = let a = terminator-inside c.args.e _ _ _ _ _ (sym (headed-terminator c.args.e _ _ _ _ _ (entry-headed _ _ _ _ _ _ _ c.entry_head.ensures) _ c.in-Terminator.is)) in omega (arith, a.0, a.1)
+loop-x-smaller c = let a = terminator-inside c.args.e _ _ _ _ _ (sym (headed-terminator c.args.e _ _ _ _ _ (entry-headed _ _ _ _ _ _ _ c.entry_head.ensures) _ ((read_some _ _ _ _ c.ok_or.ensures.value c.in_ok-x.was) ∙ ap Some ((read_some _ _ _ _ c.ok_or.ensures.value c.in_ok-x.was) ∙ ap Some c.in-Terminator.is)))) in omega (arith, a.0, a.1)
 
 pub loop-x-preserved : goal.loop-x-preserved
-loop-x-preserved c = stage-terminator c.loop-x.invariant _ (headed-terminator _ _ _ _ _ _ (entry-headed _ _ _ _ _ _ _ c.entry_head.ensures) _ c.in-Terminator.is) _ c.after_terminator-nesting.ensures
+loop-x-preserved c = stage-terminator c.loop-x.invariant _ (headed-terminator _ _ _ _ _ _ (entry-headed _ _ _ _ _ _ _ c.entry_head.ensures) _ ((read_some _ _ _ _ c.ok_or.ensures.value c.in_ok-x.was) ∙ ap Some ((read_some _ _ _ _ c.ok_or.ensures.value c.in_ok-x.was) ∙ ap Some c.in-Terminator.is))) _ c.after_terminator-nesting.ensures
 
 pub returns-in-End : goal.returns-in-End
-returns-in-End c = stage-end c.loop-x.invariant (headed-end _ _ _ _ _ _ (entry-headed _ _ _ _ _ _ _ c.entry_head.ensures) c.in-End.is)
+returns-in-End c = stage-end c.loop-x.invariant (headed-end _ _ _ _ _ _ (entry-headed _ _ _ _ _ _ _ c.entry_head.ensures) ((read_some _ _ _ _ c.ok_or.ensures.value c.in_ok-x.was) ∙ ap Some ((read_some _ _ _ _ c.ok_or.ensures.value c.in_ok-x.was) ∙ ap Some c.in-End.is)))
 
-pub returns-in-Unreadable : goal.returns-in-Unreadable
-returns-in-Unreadable c = stage-unreadable c.loop-x.invariant (headed-none _ _ _ _ _ _ (entry-headed _ _ _ _ _ _ _ c.entry_head.ensures) c.in-Unreadable.is)
+pub returns-in_err-x : goal.returns-in_err-x
+returns-in_err-x c = (refused-none _ _ _ _ _ c.ok_or.ensures.value c.in_err-x.was c.from_residual.ensures.1).1 ∙ (refused-none _ _ _ _ _ c.ok_or.ensures.value c.in_err-x.was c.from_residual.ensures.1).1 ∙ stage-unreadable c.loop-x.invariant (headed-none _ _ _ _ _ _ (entry-headed _ _ _ _ _ _ _ c.entry_head.ensures) (refused-none _ _ _ _ _ c.ok_or.ensures.value c.in_err-x.was c.from_residual.ensures.1).0)

@@ -3,12 +3,12 @@ use mathlib.Core.Path.{sym}
 use Rattle.marking.proofs.UnitAnalyses.{left-same, left-zeros}
 use Rattle.marking.proofs.analysis.clear_refused.Goals as goal
 
-pub returns-in-Entries : goal.returns-in-Entries
-returns-in-Entries c = let e = c.in-Entries.is in
+pub returns-in-Ok : goal.returns-in-Ok
+returns-in-Ok c = let e = c.in-Ok.is in
     (sym e, (left-same e _, (left-same e _, (left-same e _, (left-same e _, left-same e _)))))
 
-pub returns-in-Refused : goal.returns-in-Refused
-returns-in-Refused c = let e = c.in-Refused.is in
+pub returns-in-Err : goal.returns-in-Err
+returns-in-Err c = let e = c.in-Err.is in
     let z = c.clear_columns.ensures in (
       sym e,
       (

@@ -2,8 +2,8 @@
 use Rattle.marking.proofs.EntryAnswers.{refusal-same, refusal-four}
 use Rattle.marking.proofs.analysis.refusal.Goals as goal
 
-pub returns-in-To : goal.returns-in-To
-returns-in-To c = search refusal-same
+pub returns-in-Some : goal.returns-in-Some
+returns-in-Some c = search refusal-same
 
-pub returns-in-Unreadable : goal.returns-in-Unreadable
-returns-in-Unreadable c = search refusal-four
+pub returns-in-None : goal.returns-in-None
+returns-in-None c = search refusal-four

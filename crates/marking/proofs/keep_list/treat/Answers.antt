@@ -1,4 +1,6 @@
 -- `treat` changes what is live or dead, and no refusal. Assumes nothing.
+use mathlib.Core.Path.{◌∙◌}
+use Rattle.readers.proofs.Refusing.{passed-on}
 use Rattle.marking.proofs.KeepLists.{never-live, still-live, always-live, still-dead, still-refused}
 use Rattle.marking.proofs.keep_list.treat.Goals as goal
 
@@ -14,5 +16,5 @@ returns-else-k-eq-NEVER_ROOT c = search still-live
 pub returns-else-k-eq-ALWAYS_ROOT : goal.returns-else-k-eq-ALWAYS_ROOT
 returns-else-k-eq-ALWAYS_ROOT c = search still-dead
 
-pub returns-in-Refused : goal.returns-in-Refused
-returns-in-Refused c = still-refused _ _ _ c.in-Refused.is
+pub returns-in_err-match : goal.returns-in_err-match
+returns-in_err-match c = passed-on _ _ c.from_residual.ensures.1 ∙ still-refused _ _ _ c.in_err-match.was

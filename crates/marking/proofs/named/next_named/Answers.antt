@@ -10,8 +10,8 @@ loop-a-init c = (refl, omega arith)
 pub returns-then-a-name : goal.returns-then-a-name
 returns-then-a-name c = search named-read
 
-pub returns-in_default : goal.returns-in_default
-returns-in_default c = search named-unread
+pub returns-in_err-past : goal.returns-in_err-past
+returns-in_err-past c = search named-unread
 
 pub loop-a-smaller : goal.loop-a-smaller
 loop-a-smaller c = search named-less
@@ -22,5 +22,5 @@ loop-a-preserved c = (search named_past, search named-on)
 pub returns-in-Last : goal.returns-in-Last
 returns-in-Last c = search named-last
 
-pub returns-in-Unreadable : goal.returns-in-Unreadable
-returns-in-Unreadable c = search named-bad
+pub returns-in_err-a : goal.returns-in_err-a
+returns-in_err-a c = search named-bad

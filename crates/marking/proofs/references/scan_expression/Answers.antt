@@ -6,10 +6,10 @@ pub returns-in_default : goal.returns-in_default
 returns-in_default c = expression-none _ _ _ _ _ c.walk_expression.ensures c.in_default.is
 
 pub returns-then-absolute : goal.returns-then-absolute
-returns-then-absolute c = expression-absolute _ _ _ _ _ c.walk_expression.ensures _ _ c.in-Walked.is c.if-absolute.true
+returns-then-absolute c = expression-absolute _ _ _ _ _ c.walk_expression.ensures _ _ c.in-Some.is c.if-absolute.true
 
 pub returns-then-references-eq0 : goal.returns-then-references-eq0
-returns-then-references-eq0 c = expression-empty _ _ _ _ _ c.walk_expression.ensures _ _ c.in-Walked.is c.if-absolute.false c.if-references-eq0.true
+returns-then-references-eq0 c = expression-empty _ _ _ _ _ c.walk_expression.ensures _ _ c.in-Some.is c.if-absolute.false c.if-references-eq0.true
 
 pub returns : goal.returns
-returns c = expression-put _ _ _ _ _ c.walk_expression.ensures _ _ c.in-Walked.is c.if-absolute.false _ _ c.put_references.ensures
+returns c = expression-put _ _ _ _ _ c.walk_expression.ensures _ _ c.in-Some.is c.if-absolute.false _ _ c.put_references.ensures

@@ -8,5 +8,5 @@ returns-in-Attribute c = search end_more
 pub returns-in-Last : goal.returns-in-Last
 returns-in-Last c = search end-last
 
-pub returns-in-Unreadable : goal.returns-in-Unreadable
-returns-in-Unreadable c = search end-bad
+pub returns-in_err-attribute_spec : goal.returns-in_err-attribute_spec
+returns-in_err-attribute_spec c = search end-bad

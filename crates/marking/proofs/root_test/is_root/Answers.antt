@@ -8,8 +8,8 @@ returns-in-Live c = search subprogram-live
 pub returns-in-Dead : goal.returns-in-Dead
 returns-in-Dead c = search subprogram-ranges
 
-pub returns-in-Refused : goal.returns-in-Refused
-returns-in-Refused c = search subprogram-refused
+pub returns-in_err-low_pcs : goal.returns-in_err-low_pcs
+returns-in_err-low_pcs c = search subprogram-refused
 
 pub returns-then-tag-eq-DW_TAG_variable : goal.returns-then-tag-eq-DW_TAG_variable
 returns-then-tag-eq-DW_TAG_variable c = search variable-is

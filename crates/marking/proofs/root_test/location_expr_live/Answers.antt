@@ -5,11 +5,11 @@ use Rattle.marking.proofs.root_test.location_expr_live.Goals as goal
 pub loop-c-init : goal.loop-c-init
 loop-c-init c = search location-start
 
-pub returns-in_default : goal.returns-in_default
-returns-in_default c = search location-none
+pub returns-in_err-op : goal.returns-in_err-op
+returns-in_err-op c = search location-none
 
-pub returns-in-Fails : goal.returns-in-Fails
-returns-in-Fails c = search operation-refused
+pub returns-in_err-operation_live : goal.returns-in_err-operation_live
+returns-in_err-operation_live c = search operation-refused
 
 pub loop-c-smaller-in-Live : goal.loop-c-smaller-in-Live
 loop-c-smaller-in-Live c = search location-less

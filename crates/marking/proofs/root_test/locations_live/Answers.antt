@@ -12,8 +12,8 @@ returns-in_default c = search locations-end
 pub returns-in-Live : goal.returns-in-Live
 returns-in-Live c = search locations-live
 
-pub returns-in-Refused : goal.returns-in-Refused
-returns-in-Refused c = search locations-refused
+pub returns-in_err-location_expr_live : goal.returns-in_err-location_expr_live
+returns-in_err-location_expr_live c = search locations-refused
 
 pub loop-a-smaller-in-Dead : goal.loop-a-smaller-in-Dead
 loop-a-smaller-in-Dead c = search attributes-less

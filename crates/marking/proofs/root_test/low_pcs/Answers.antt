@@ -13,8 +13,8 @@ returns-in_default c = search low_end
 pub returns-in-Live : goal.returns-in-Live
 returns-in-Live c = search low-live
 
-pub returns-in-Refused : goal.returns-in-Refused
-returns-in-Refused c = search low-refused
+pub returns-in_err-low_pc : goal.returns-in_err-low_pc
+returns-in_err-low_pc c = search low-refused
 
 pub loop-a-smaller : goal.loop-a-smaller
 loop-a-smaller c = search attributes-less

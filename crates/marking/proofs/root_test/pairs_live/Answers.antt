@@ -5,8 +5,8 @@ use Rattle.marking.proofs.root_test.pairs_live.Goals as goal
 pub loop-c-init : goal.loop-c-init
 loop-c-init c = pairs_start _ _ _
 
-pub returns-in_default : goal.returns-in_default
-returns-in_default c = search pairs-none
+pub returns-in_err-r : goal.returns-in_err-r
+returns-in_err-r c = search pairs-none
 
 pub loop-c-smaller : goal.loop-c-smaller
 loop-c-smaller c = search pairs-less

@@ -18,5 +18,5 @@ loop-x-preserved c = search older-on
 pub returns-in-End : goal.returns-in-End
 returns-in-End c = search older-end
 
-pub returns-in-Unreadable : goal.returns-in-Unreadable
-returns-in-Unreadable c = search older-none
+pub returns-in_err-x : goal.returns-in_err-x
+returns-in_err-x c = search older-none

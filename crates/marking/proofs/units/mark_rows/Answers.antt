@@ -1,4 +1,5 @@
 -- `mark_rows` resolves the references, then marks the graph of the rows. Assumes nothing.
+use Rattle.readers.proofs.Refusing.{passed-on}
 use mathlib.Core.Path.{sym, ap, ◌∙◌}
 use native.Mathlib.Omega.{arith}
 use Rattle.readers.specs.Choice.{zeros}
@@ -23,17 +24,17 @@ slice_bounds-mark_with-end-4 c = take_within _ _ c.requires.laid.roots_inside
 pub slice_bounds-mark_with-end-6 : goal.slice_bounds-mark_with-end-6
 slice_bounds-mark_with-end-6 c = take_within _ _ c.requires.laid.marks_inside
 
-pub returns-in-Kept : goal.returns-in-Kept
-returns-in-Kept c = record {
-  answer = λ rows k. rows-kept rows k _ (c.resolve_by_hints-n.ensures.answer rows k.held) (c.resolve_by_hints-n.ensures.filled rows k.held) _ (sym c.in-Kept.is ∙ c.mark_with-marked.ensures.0);
+pub returns-in_ok-kept : goal.returns-in_ok-kept
+returns-in_ok-kept c = record {
+  answer = λ rows k. rows-kept rows k _ (c.resolve_by_hints-n.ensures.answer rows k.held) (c.resolve_by_hints-n.ensures.filled rows k.held) _ (sym c.in_ok-kept.was ∙ c.mark_with-marked.ensures.0);
   marks = λ rows k. rows-marks rows k _ (c.resolve_by_hints-n.ensures.answer rows k.held) (c.resolve_by_hints-n.ensures.filled rows k.held) _ c.mark_with-marked.ensures.1;
   pairs = λ rows k. c.resolve_by_hints-n.ensures.filled rows k.held;
   work = c.clear_indexes.ensures ∙ ap zeros (c.mark_with-marked.auto.work ∙ c.resolve_by_hints-n.auto.work);
 }
 
-pub returns-in-Refused : goal.returns-in-Refused
-returns-in-Refused c = record {
-  answer = λ rows k. rows_taken rows k _ (c.resolve_by_hints-n.ensures.answer rows k.held) (c.resolve_by_hints-n.ensures.filled rows k.held) _ (sym c.in-Refused.is ∙ c.mark_with-marked.ensures.0);
+pub returns-in_err-kept : goal.returns-in_err-kept
+returns-in_err-kept c = passed-on _ _ c.from_residual.ensures.1 ∙ record {
+  answer = λ rows k. rows_taken rows k _ (c.resolve_by_hints-n.ensures.answer rows k.held) (c.resolve_by_hints-n.ensures.filled rows k.held) _ (sym c.in_err-kept.was ∙ c.mark_with-marked.ensures.0);
   marks = λ rows k. rows-marks rows k _ (c.resolve_by_hints-n.ensures.answer rows k.held) (c.resolve_by_hints-n.ensures.filled rows k.held) _ c.mark_with-marked.ensures.1;
   pairs = λ rows k. c.resolve_by_hints-n.ensures.filled rows k.held;
   work = c.clear_indexes.ensures ∙ ap zeros (c.mark_with-marked.auto.work ∙ c.resolve_by_hints-n.auto.work);

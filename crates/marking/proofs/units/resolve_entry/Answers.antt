@@ -25,17 +25,17 @@ offset_bounds-pairs-place c = omega (arith, pairing-room _ _ _ _ _ _ _ _ _ _ _ c
 pub bounds-pairs-place : goal.bounds-pairs-place
 bounds-pairs-place c = omega (arith, pairing-room _ _ _ _ _ _ _ _ _ _ _ c.loop-j.invariant c.loop-j-test.true)
 
-pub overflow_mul-pairs-in-Entry : goal.overflow_mul-pairs-in-Entry
-overflow_mul-pairs-in-Entry c = omega (arith, pairing-room _ _ _ _ _ _ _ _ _ _ _ c.loop-j.invariant c.loop-j-test.true)
+pub overflow_mul-pairs-in-Some : goal.overflow_mul-pairs-in-Some
+overflow_mul-pairs-in-Some c = omega (arith, pairing-room _ _ _ _ _ _ _ _ _ _ _ c.loop-j.invariant c.loop-j-test.true)
 
 pub overflow_add-pairs : goal.overflow_add-pairs
 overflow_add-pairs c = omega (arith, pairing-room _ _ _ _ _ _ _ _ _ _ _ c.loop-j.invariant c.loop-j-test.true)
 
-pub offset_bounds-pairs-place-in-Entry : goal.offset_bounds-pairs-place-in-Entry
-offset_bounds-pairs-place-in-Entry c = omega (arith, pairing-room _ _ _ _ _ _ _ _ _ _ _ c.loop-j.invariant c.loop-j-test.true)
+pub offset_bounds-pairs-place-in-Some : goal.offset_bounds-pairs-place-in-Some
+offset_bounds-pairs-place-in-Some c = omega (arith, pairing-room _ _ _ _ _ _ _ _ _ _ _ c.loop-j.invariant c.loop-j-test.true)
 
-pub bounds-pairs-place-in-Entry : goal.bounds-pairs-place-in-Entry
-bounds-pairs-place-in-Entry c = simp length-set (omega (arith, pairing-room _ _ _ _ _ _ _ _ _ _ _ c.loop-j.invariant c.loop-j-test.true))
+pub bounds-pairs-place-in-Some : goal.bounds-pairs-place-in-Some
+bounds-pairs-place-in-Some c = simp length-set (omega (arith, pairing-room _ _ _ _ _ _ _ _ _ _ _ c.loop-j.invariant c.loop-j-test.true))
 
 pub overflow_add-place : goal.overflow_add-place
 overflow_add-place c = omega (arith, pairing-room _ _ _ _ _ _ _ _ _ _ _ c.loop-j.invariant c.loop-j-test.true)

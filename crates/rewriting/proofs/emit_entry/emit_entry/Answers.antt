@@ -44,20 +44,20 @@ slice_bounds-emit_attribute-start c = omega (arith, inside _ _ _ c.loop-past.inv
 pub slice_bounds-emit_attribute-end : goal.slice_bounds-emit_attribute-end
 slice_bounds-emit_attribute-end c = omega (arith, inside _ _ _ c.loop-past.invariant.0)
 
-pub overflow_add-to-in-To : goal.overflow_add-to-in-To
-overflow_add-to-in-To c = record { fits = after_small _ _ _ c.loop-past.invariant.0 _ _ c.emit_attribute.ensures.within (size_small (copied-within _ _ _ _ c.emit_bytes-to.ensures.count c.emit_bytes-to.ensures.part) c.well_formed.1.1.1.1.1.1.1.1.1.1.1.1.1.1.1.1.0.0) _ c.in-To.is }
+pub overflow_add-to-in-Ok : goal.overflow_add-to-in-Ok
+overflow_add-to-in-Ok c = record { fits = after_small _ _ _ c.loop-past.invariant.0 _ _ c.emit_attribute.ensures.within (size_small (copied-within _ _ _ _ c.emit_bytes-to.ensures.count c.emit_bytes-to.ensures.part) c.well_formed.1.1.1.1.1.1.1.1.1.1.1.1.1.1.1.1.0.0) _ c.in-Ok.is }
 
-pub returns-in-Refused : goal.returns-in-Refused
-returns-in-Refused c = record {
+pub returns-in-Err : goal.returns-in-Err
+returns-in-Err c = record {
   within = within-trans (copied-within _ _ _ _ c.emit_bytes-to.ensures.count c.emit_bytes-to.ensures.part) (within-stop _ _ _ c.loop-past.invariant.0 _ _ c.emit_attribute.ensures.within _);
-  bytes = λ lists ps look x rs rest m n b lent step sp va d. from_start (entry_done _ _ look _ _ x step rs rest d _ _ (ap (λ (k : Cursor). k.at) sp) (ap (λ (k : Cursor). k.at) va) lists ps _ _ _ _ _ (λ _ _. copied-front _ _ _ _ c.emit_bytes-to.ensures.count c.emit_bytes-to.ensures.part _ c.bytes_between.ensures) _ _ (λ reads after i k. entering-refused lists ps _ _ _ _ reads _ _ _ _ _ _ (c.loop-past.invariant.1 lists ps reads after m n b lent i k) _ (plan-more _ _ c.next_plan.ensures _ c.in-Change.is) _ refl _ _ (λ one mid j v e. emits-on _ _ _ c.loop-past.invariant.0 (c.emit_attribute.ensures.bytes lists ps one mid m n b lent j v e)) _ (onward-no _ _ _ c.in-Refused.is)));
+  bytes = λ lists ps look x rs rest m n b lent step sp va d. from_start (entry_done _ _ look _ _ x step rs rest d _ _ (ap (λ (k : Cursor). k.at) sp) (ap (λ (k : Cursor). k.at) va) lists ps _ _ _ _ _ (λ _ _. copied-front _ _ _ _ c.emit_bytes-to.ensures.count c.emit_bytes-to.ensures.part _ c.bytes_between.ensures) _ _ (λ reads after i k. entering-refused lists ps _ _ _ _ reads _ _ _ _ _ _ (c.loop-past.invariant.1 lists ps reads after m n b lent i k) _ (plan-more _ _ c.next_plan.ensures _ c.in-Change.is) _ refl _ _ (λ one mid j v e. emits-on _ _ _ c.loop-past.invariant.0 (c.emit_attribute.ensures.bytes lists ps one mid m n b lent j v e)) _ (onward-no _ _ _ c.in-Err.is)));
 }
 
 pub loop-past-smaller : goal.loop-past-smaller
 loop-past-smaller c = entering-less _ _ _ _ _ _ _ (plan-more _ _ c.next_plan.ensures _ c.in-Change.is) refl
 
 pub loop-past-preserved : goal.loop-past-preserved
-loop-past-preserved c = (within_on _ _ _ c.loop-past.invariant.0 _ _ c.emit_attribute.ensures.within _ c.in-To.is, λ lists ps reads after m n b lent i k. entering-on lists ps _ _ _ _ reads _ _ _ _ _ _ (c.loop-past.invariant.1 lists ps reads after m n b lent i k) _ (plan-more _ _ c.next_plan.ensures _ c.in-Change.is) _ refl _ _ (λ one mid j v e. emits-on _ _ _ c.loop-past.invariant.0 (c.emit_attribute.ensures.bytes lists ps one mid m n b lent j v e)) _ (onward-to _ _ _ c.in-To.is))
+loop-past-preserved c = (within_on _ _ _ c.loop-past.invariant.0 _ _ c.emit_attribute.ensures.within _ c.in-Ok.is, λ lists ps reads after m n b lent i k. entering-on lists ps _ _ _ _ reads _ _ _ _ _ _ (c.loop-past.invariant.1 lists ps reads after m n b lent i k) _ (plan-more _ _ c.next_plan.ensures _ c.in-Change.is) _ refl _ _ (λ one mid j v e. emits-on _ _ _ c.loop-past.invariant.0 (c.emit_attribute.ensures.bytes lists ps one mid m n b lent j v e)) _ (onward-to _ _ _ c.in-Ok.is))
 
 pub returns-in-Over : goal.returns-in-Over
 returns-in-Over c = record {

@@ -2,7 +2,7 @@
 use mathlib.Core.Path.{◌≡◌}
 use Prim.Native.Nat.{ℕ, ◌-◌, ◌≤◌}
 use mathlib.Core.List.{List}
-use Rattle.std.specs.Prelude.{Some}
+use Rattle.std.specs.Prelude.{Some, Ok}
 use lib.ListN.{length, drop}
 use Rattle.readers.specs.Layout.{Read, read_in}
 use Rattle.readers.specs.Expression.{expression_in}
@@ -13,12 +13,11 @@ use Rattle.rewriting.specs.Rewriting.{Lists}
 use Rattle.rewriting.specs.Inner.Written.{MapHeld}
 use Rattle.rewriting.specs.Inner.Bounds.{Bounds}
 use Rattle.rewriting.specs.Inner.Emission.{Within, ListsLent}
-use Rattle.rewriting.specs.declared.emit_entry.Emitted.TheVariants.{To}
 use Rattle.rewriting.proofs.WritePass.EntryEmits.{Entering}
 use Rattle.rewriting.proofs.emit_entry.emit_entry.Given as goal
 
 abbrev pub invariant-loop-past : goal.invariant-loop-past
-invariant-loop-past l = Within l.initial.out (To l.to) l.out
+invariant-loop-past l = Within l.initial.out (Ok l.to) l.out
     × ((lists : Lists) (ps : List Place) (whole : List Read) (rest : List ℕ) → MapHeld ps l.map → l.places ≡ length ps → Bounds ps l.bounds
     → ListsLent lists l.ranges l.ranges_count l.locations l.locations_count l.strings l.strings_count → l.initial.from.at ≤ length l.unit
     → read_in l.e.big_endian (expression_in l.e) (specs_layout l.e (attributes_from l.abbreviations l.initial.p.at)) (drop l.initial.from.at l.unit) ≡ Some (whole, rest)

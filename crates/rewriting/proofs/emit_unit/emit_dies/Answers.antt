@@ -25,18 +25,18 @@ pub slice_bounds-emit_entry-end : goal.slice_bounds-emit_entry-end
 slice_bounds-emit_entry-end c = omega (arith, inside _ _ _ c.loop-x.invariant.0)
 
 pub overflow_add-to : goal.overflow_add-to
-overflow_add-to c = record { fits = after_small _ _ _ c.loop-x.invariant.0 _ _ c.emit_entry.ensures.within c.well_formed.1.1.1.1.1.1.1.1.1.1.1.1.1.1.1.1.1.0.0 _ c.in-To.is }
+overflow_add-to c = record { fits = after_small _ _ _ c.loop-x.invariant.0 _ _ c.emit_entry.ensures.within c.well_formed.1.1.1.1.1.1.1.1.1.1.1.1.1.1.1.1.1.0.0 _ c.in-Ok.is }
 
-pub loop-x-smaller-in-To : goal.loop-x-smaller-in-To
-loop-x-smaller-in-To c = search next-less
+pub loop-x-smaller-in-Ok : goal.loop-x-smaller-in-Ok
+loop-x-smaller-in-Ok c = search next-less
 
-pub loop-x-preserved-in-To : goal.loop-x-preserved-in-To
-loop-x-preserved-in-To c = (within_on _ _ _ c.loop-x.invariant.0 _ _ c.emit_entry.ensures.within _ c.in-To.is, λ x u lists ps p q h k b g. writing-entry _ _ _ _ _ _ _ _ x u lists ps p _ _ _ _ (c.loop-x.invariant.1 x u lists ps p q h k b g) _ c.next_kept.ensures c.in-Item.x c.in-Item.is c.if-x.true _ _ (λ look z rs rest s t v d. emits-on _ _ _ c.loop-x.invariant.0 (c.emit_entry.ensures.bytes lists ps look z rs rest h k b g s t v d)) _ (onward-to _ _ _ c.in-To.is))
+pub loop-x-preserved-in-Ok : goal.loop-x-preserved-in-Ok
+loop-x-preserved-in-Ok c = (within_on _ _ _ c.loop-x.invariant.0 _ _ c.emit_entry.ensures.within _ c.in-Ok.is, λ x u lists ps p q h k b g. writing-entry _ _ _ _ _ _ _ _ x u lists ps p _ _ _ _ (c.loop-x.invariant.1 x u lists ps p q h k b g) _ c.next_kept.ensures c.in-Some.x c.in-Some.is c.if-x.true _ _ (λ look z rs rest s t v d. emits-on _ _ _ c.loop-x.invariant.0 (c.emit_entry.ensures.bytes lists ps look z rs rest h k b g s t v d)) _ (onward-to _ _ _ c.in-Ok.is))
 
-pub returns-in-Refused : goal.returns-in-Refused
-returns-in-Refused c = record {
+pub returns-in-Err : goal.returns-in-Err
+returns-in-Err c = record {
   within = within-stop _ _ _ c.loop-x.invariant.0 _ _ c.emit_entry.ensures.within _;
-  bytes = λ x u lists ps p q h k b g. from_start (writing-refused _ _ _ _ _ _ _ _ x u lists ps p _ _ _ _ (c.loop-x.invariant.1 x u lists ps p q h k b g) _ c.next_kept.ensures c.in-Item.x c.in-Item.is c.if-x.true _ _ (λ look z rs rest s t v d. emits-on _ _ _ c.loop-x.invariant.0 (c.emit_entry.ensures.bytes lists ps look z rs rest h k b g s t v d)) _ (onward-no _ _ _ c.in-Refused.is));
+  bytes = λ x u lists ps p q h k b g. from_start (writing-refused _ _ _ _ _ _ _ _ x u lists ps p _ _ _ _ (c.loop-x.invariant.1 x u lists ps p q h k b g) _ c.next_kept.ensures c.in-Some.x c.in-Some.is c.if-x.true _ _ (λ look z rs rest s t v d. emits-on _ _ _ c.loop-x.invariant.0 (c.emit_entry.ensures.bytes lists ps look z rs rest h k b g s t v d)) _ (onward-no _ _ _ c.in-Err.is));
 }
 
 pub slice_bounds-emit_bytes-count : goal.slice_bounds-emit_bytes-count
@@ -55,4 +55,4 @@ pub loop-x-smaller : goal.loop-x-smaller
 loop-x-smaller c = search next-less
 
 pub loop-x-preserved : goal.loop-x-preserved
-loop-x-preserved c = (within_on _ _ _ c.loop-x.invariant.0 _ _ (copied-within _ _ _ _ c.emit_bytes-n.ensures.count c.emit_bytes-n.ensures.part) _ refl, λ x u lists ps p q h k b g. writing-terminator _ _ _ _ _ _ _ _ x u lists ps p _ _ _ _ (c.loop-x.invariant.1 x u lists ps p q h k b g) _ c.next_kept.ensures c.in-Item.x c.in-Item.is c.if-x.false _ _ (λ _ _. copied_on _ _ _ c.loop-x.invariant.0 _ _ _ c.emit_bytes-n.ensures.count c.emit_bytes-n.ensures.part _ c.bytes_between.ensures))
+loop-x-preserved c = (within_on _ _ _ c.loop-x.invariant.0 _ _ (copied-within _ _ _ _ c.emit_bytes-n.ensures.count c.emit_bytes-n.ensures.part) _ refl, λ x u lists ps p q h k b g. writing-terminator _ _ _ _ _ _ _ _ x u lists ps p _ _ _ _ (c.loop-x.invariant.1 x u lists ps p q h k b g) _ c.next_kept.ensures c.in-Some.x c.in-Some.is c.if-x.false _ _ (λ _ _. copied_on _ _ _ c.loop-x.invariant.0 _ _ _ c.emit_bytes-n.ensures.count c.emit_bytes-n.ensures.part _ c.bytes_between.ensures))

@@ -10,12 +10,12 @@ use Rattle.rewriting.specs.Inner.Written.{MapHeld}
 use Rattle.rewriting.specs.Inner.Bounds.{Bounds}
 use Rattle.rewriting.specs.Inner.IndexLists.{PassInput}
 use Rattle.rewriting.specs.Inner.Emission.{Within, ListsLent}
-use Rattle.rewriting.specs.declared.emit_entry.Emitted.TheVariants.{To}
+use Rattle.std.specs.Prelude.{Ok}
 use Rattle.rewriting.proofs.WritePass.ItemEmits.{Writing}
 use Rattle.rewriting.proofs.emit_unit.emit_dies.Given as goal
 
 abbrev pub invariant-loop-x : goal.invariant-loop-x
-invariant-loop-x l = Within l.initial.out (To l.to) l.out
+invariant-loop-x l = Within l.initial.out (Ok l.to) l.out
     × ((x : Sections) (u : Unit') (lists : Lists) (ps : List Place) → PassInput x u l.r l.abbreviations l.index l.unit l.parents l.ends l.marks l.initial.s.at.at → l.initial.s.at.at ≡ u.header.first.0
     → MapHeld ps l.map → l.places ≡ length ps → Bounds ps l.bounds → ListsLent lists l.ranges l.ranges_count l.locations l.locations_count l.strings l.strings_count
     → Writing l.r l.abbreviations l.index l.unit l.parents l.ends l.marks l.initial.s.at.at x u lists ps l.initial.out l.s l.out l.to)

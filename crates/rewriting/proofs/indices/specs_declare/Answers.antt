@@ -21,8 +21,8 @@ loop-a-smaller c = search specs-less
 pub loop-a-preserved : goal.loop-a-preserved
 loop-a-preserved c = search specs-name
 
-pub returns-in-Last : goal.returns-in-Last
-returns-in-Last c = search specs-last
+pub returns-in-Some-attribute_spec : goal.returns-in-Some-attribute_spec
+returns-in-Some-attribute_spec c = search specs-last
 
-pub returns-in-Unreadable : goal.returns-in-Unreadable
-returns-in-Unreadable c = search specs-bad
+pub returns-in-None : goal.returns-in-None
+returns-in-None c = search specs-bad
