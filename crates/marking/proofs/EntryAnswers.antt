@@ -1,4 +1,5 @@
 -- One entry: what its root test and its scan answer together. Assumes nothing.
+use Rattle.readers.proofs.Refusing.{same_ok}
 use mathlib.Core.Path.{◌≡◌, refl, ap, sym, ◌∙◌}
 use Prim.Native.Nat.{ℕ}
 use mathlib.Core.List.{List}
@@ -9,7 +10,7 @@ use Rattle.std.specs.Prelude.{None, Option, Some, Err, Ok, Result}
 use Rattle.marking.specs.EntryReferences.{ReferencesFound, found, refused as refused_after}
 use Rattle.marking.specs.declared.analysis.EntryAnalysis.{EntryAnalysis}
 use Rattle.marking.specs.declared.addresses.Verdict.{Verdict}
-use Rattle.marking.specs.Inner.Columns.{row_found}
+use Rattle.marking.specs.Inner.Columns.{root_number, row_found}
 use Rattle.marking.specs.ReferenceTable.{through}
 use Rattle.marking.specs.declared.addresses.Verdict.TheVariants.{Live, Dead}
 use Rattle.marking.specs.ReferenceTable.{placed, written, scanned_to, table_after, entry_scanned}
@@ -47,13 +48,10 @@ pub record Judged (v : Result Verdict ℕ) (root : ℕ) : Type 0 where
   pub answer : (room at : ℕ) (next : Cursor) (f : ReferencesFound) → entry_answer room at (Some next) v f ≡ root_found room at next root f
   pub table : (t : List ℕ) (at : ℕ) (f : ReferencesFound) → entry_table t at v f ≡ table_after t at f
 
-pub judged-live : (v : Result Verdict ℕ) (root : ℕ) → v ≡ Ok Live → root ≡ 1 → Judged v root
-unfolding entry_answer entry_table
-judged-live v root e q = rw (e, q) (record { answer = λ room at next f. refl; table = λ t at f. refl })
-
-pub judged-dead : (v : Result Verdict ℕ) (root : ℕ) → v ≡ Ok Dead → root ≡ 0 → Judged v root
-unfolding entry_answer entry_table
-judged-dead v root e q = rw (e, q) (record { answer = λ room at next f. refl; table = λ t at f. refl })
+pub judged : (v : Result Verdict ℕ) (w : Verdict) (root : ℕ) → v ≡ Ok w → root ≡ root_number w → Judged v root
+unfolding entry_answer entry_table root_number
+judged v Live root e q = rw (e, q) (record { answer = λ room at next f. refl; table = λ t at f. refl })
+judged v Dead root e q = rw (e, q) (record { answer = λ room at next f. refl; table = λ t at f. refl })
 
 module _ (table : List ℕ) (at : ℕ) (end : Option Cursor) (v : Result Verdict ℕ) (f : ReferencesFound) where
   -- an answer with the table that it leaves
@@ -70,14 +68,14 @@ module _ (table : List ℕ) (at : ℕ) (end : Option Cursor) (v : Result Verdict
 
   module _ (root : ℕ) (j : Judged v root) (left : List ℕ) (t : left ≡ table_after table at f) where
     module _ (place : ℕ) (past : Option Cursor) (s : through place past ≡ entry_scanned (scanned_to (length table) at f) end) where
-      through : (w : Result ℕ ℕ) → through place past ≡ entry_scanned w end → (Ok place ≡ w) × (past ≡ end)
+      gone : (w : Result ℕ ℕ) → through place past ≡ entry_scanned w end → (Ok place ≡ w) × (past ≡ end)
       unfolding entry_scanned
-      through (Ok p) q = let h : place ≡ p = cc in let k : past ≡ end = cc in (ap Ok h, k)
-      through (Err n) q = let z : ◌≡◌ {A = ℕ} 0 1 = cc in absurd (omega arith)
+      gone (Ok p) q = let h = same_ok _ _ q in (ap (λ s. Ok s.place) h, ap (λ s. s.end) h)
+      gone (Err n) q = let z : ◌≡◌ {A = ℕ} 0 1 = cc in absurd (omega arith)
 
       pub row-found : (next : Cursor) → past ≡ Some next → Gives (row_found root place next) left
       row-found next q =
-          let h : (Ok place ≡ scanned_to (length table) at f) × (past ≡ end) = through (scanned_to (length table) at f) s in (
+          let h : (Ok place ≡ scanned_to (length table) at f) × (past ≡ end) = gone (scanned_to (length table) at f) s in (
             found-row (length table) at f root place next h.0 ∙ sym (j.answer (length table) at next f) ∙ ap (λ (m : Option Cursor). entry_answer (length table) at m v f) (sym q ∙ h.1),
             t ∙ sym (j.table table at f),
           )
@@ -85,7 +83,7 @@ module _ (table : List ℕ) (at : ℕ) (end : Option Cursor) (v : Result Verdict
       pub row-unread : past ≡ None → Gives (Err 4) left
       unfolding entry_answer
       row-unread q =
-          let h : (Ok place ≡ scanned_to (length table) at f) × (past ≡ end) = through (scanned_to (length table) at f) s in
+          let h : (Ok place ≡ scanned_to (length table) at f) × (past ≡ end) = gone (scanned_to (length table) at f) s in
           (ap (λ (m : Option Cursor). entry_answer (length table) at m v f) (sym q ∙ h.1), t ∙ sym (j.table table at f))
 
     pub row-refused : (n m : ℕ) → Err n ≡ entry_scanned (scanned_to (length table) at f) end → m ≡ refusal_of end n → Gives (Err m) left
@@ -124,12 +122,12 @@ pub record RowOf (table : List ℕ) (at : ℕ) (v : Result Verdict ℕ) (f : Ref
 pub entry_found_lem : (table : List ℕ) (at root to : ℕ) (next : Cursor) (v : Result Verdict ℕ) (f : ReferencesFound) → row_found root to next ≡ entry_answer (length table) at (Some next) v f → RowOf table at v f root to
 unfolding entry_answer root_found on_verdict on_found entry_table table_after
 entry_found_lem table at root to next (Ok Live) (found xs) e =
-    let r : 1 ≡ root = cc in
-    let p : to ≡ placed (length table) at xs = cc in
+    let r : 1 ≡ root = ap (λ a. a.root) (same_ok _ _ (sym e)) in
+    let p : to ≡ placed (length table) at xs = ap (λ a. a.to) (same_ok _ _ e) in
     record { names = xs; place = p; left = refl; goes = λ k. ap (λ n. k n xs) r }
 entry_found_lem table at root to next (Ok Dead) (found xs) e =
-    let r : 0 ≡ root = cc in
-    let p : to ≡ placed (length table) at xs = cc in
+    let r : 0 ≡ root = ap (λ a. a.root) (same_ok _ _ (sym e)) in
+    let p : to ≡ placed (length table) at xs = ap (λ a. a.to) (same_ok _ _ e) in
     record { names = xs; place = p; left = refl; goes = λ k. ap (λ n. k n xs) r }
 entry_found_lem table at root to next (Ok Live) (refused_after xs n) e = let z : ◌≡◌ {A = ℕ} 0 1 = cc in absurd (omega arith)
 entry_found_lem table at root to next (Ok Dead) (refused_after xs n) e = let z : ◌≡◌ {A = ℕ} 0 1 = cc in absurd (omega arith)
@@ -140,8 +138,8 @@ entry_found_lem table at root to next (Err n) f e = let z : ◌≡◌ {A = ℕ} 
 pub answered-end : (room at root to : ℕ) (next : Cursor) (end : Option Cursor) (v : Result Verdict ℕ) (f : ReferencesFound) → row_found root to next ≡ entry_answer room at end v f → end ≡ Some next
 unfolding entry_answer root_found
 answered-end room at root to next None v f e = let z : ◌≡◌ {A = ℕ} 0 1 = cc in absurd (omega arith)
-answered-end room at root to next (Some c) (Ok Live) (found xs) e = let h : c ≡ next = cc in ap Some h
-answered-end room at root to next (Some c) (Ok Dead) (found xs) e = let h : c ≡ next = cc in ap Some h
+answered-end room at root to next (Some c) (Ok Live) (found xs) e = ap (λ a. Some a.next) (same_ok _ _ (sym e))
+answered-end room at root to next (Some c) (Ok Dead) (found xs) e = ap (λ a. Some a.next) (same_ok _ _ (sym e))
 answered-end room at root to next (Some c) (Ok Live) (refused_after xs n) e = let z : ◌≡◌ {A = ℕ} 0 1 = cc in absurd (omega arith)
 answered-end room at root to next (Some c) (Ok Dead) (refused_after xs n) e = let z : ◌≡◌ {A = ℕ} 0 1 = cc in absurd (omega arith)
 answered-end room at root to next (Some c) (Err n) f e = let z : ◌≡◌ {A = ℕ} 0 1 = cc in absurd (omega arith)

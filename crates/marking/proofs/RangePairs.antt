@@ -1,4 +1,5 @@
 -- A range list of version 4, one pair at a time: the answer from a place on, by what is read there. Assumes nothing.
+use Rattle.std.proofs.lemmas.Option.{some_pair_parts}
 use mathlib.Core.Path.{◌≡◌, refl, ap, sym, ◌∙◌}
 use mathlib.Core.Logic.{◌⊎◌, inl, inr, ⊎_elim}
 use Prim.Native.Nat.{ℕ, ◌+◌, ◌-◌, ◌≤◌, ◌<◌}
@@ -48,12 +49,10 @@ module _ (e : Encoding) (s : List ℕ) (at : ℕ) (f : Field) where
       let value-is : v ≡ f.value = cc in (
         omega (arith, i, end_is),
         (λ z.
-            let y : Some (0, cursor (at + 0)) ≡ Some (v, c) =
-            sym (fixed-is e.big_endian 0 s at (omega arith) (omega arith) ∙ none e.big_endian) ∙ ap (λ (n : ℕ). fixed_at e.big_endian n s at) (sym z) ∙ q in
-            let w : 0 ≡ v = cc in sym value-is ∙ sym w),
+            let w : 0 ≡ v = (some_pair_parts _ _ _ _ (sym (fixed-is e.big_endian 0 s at (omega arith) (omega arith) ∙ none e.big_endian) ∙ ap (λ (n : ℕ). fixed_at e.big_endian n s at) (sym z) ∙ q)).0 in sym value-is ∙ sym w),
       )
     where
-      none : (big : Bool) → Some (fixed_value big (take 0 (drop at s)), cursor (at + 0)) ≡ Some (0, cursor (at + 0))
+      none : (big : Bool) → ◌≡◌ {A = Option (ℕ × Cursor)} (Some (fixed_value big (take 0 (drop at s)), cursor (at + 0))) (Some (0, cursor (at + 0)))
       none true = refl
       none false = refl
   of_number None q x = let z : ◌≡◌ {A = ℕ} 0 1 = cc in absurd (omega arith)

@@ -173,7 +173,7 @@ unit-found abbreviations (Ok None) h q = let z : ◌≡◌ {A = ℕ} 0 1 = cc in
 unit-found abbreviations (Err n) h q = let z : ◌≡◌ {A = ℕ} 0 1 = cc in absurd (omega arith)
 unit-found abbreviations (Ok (Some h')) h q =
     let u : (h' ≡ h) × (checked_of abbreviations h'.abbreviations ≡ Accepted) = unit-checked h h' _ q in
-    (ap Ok (Some u.0), ap (λ (g : UnitHeader). checked_of abbreviations g.abbreviations) (sym u.0) ∙ u.1)
+    (ap (λ g. Ok (Some g)) u.0, ap (λ (g : UnitHeader). checked_of abbreviations g.abbreviations) (sym u.0) ∙ u.1)
 
 index-found : (abbreviations : List ℕ) (r : Result (Option UnitHeader) ℕ) (h : UnitHeader) (k : ℕ) (index : List ℕ) → r ≡ Ok (Some h)
     → index ≡ index_after abbreviations r k → index ≡ index_of abbreviations h.abbreviations k

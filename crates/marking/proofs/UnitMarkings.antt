@@ -1,4 +1,5 @@
 -- The marks of a unit: from the columns that its analysis leaves to the graph of its rows, their pairs and their marks. Assumes nothing.
+use Rattle.readers.proofs.Refusing.{same_ok}
 use mathlib.Core.Path.{◌≡◌, refl, ap, ap₂, sym, ◌∙◌, subst}
 use Prim.Native.Nat.{ℕ, ◌*◌, ◌-◌, ◌/◌, ◌≤◌}
 use native.Mathlib.Omega.{arith}
@@ -125,7 +126,7 @@ record RowsOf (w : Analysed) (n : ℕ) : Type 0 where
 
 rows_of : (w : Analysed) (n m : ℕ) → entries_counted n m ≡ answer_of w → RowsOf w n
 unfolding answer_of
-rows_of (analysed rows) n m q = record { rows = rows; is = refl; count = let z : length rows ≡ n = cc in z }
+rows_of (analysed rows) n m q = record { rows = rows; is = refl; count = ap (λ a. a.entries) (same_ok _ _ (sym q)) }
 rows_of (refused k) n m q = let z : ◌≡◌ {A = ℕ} 0 1 = cc in absurd (omega arith)
 
 refusal-of : (w : Analysed) (n : ℕ) → Err n ≡ answer_of w → w ≡ refused n

@@ -110,14 +110,11 @@ module _ (e : Encoding) (table : List ℕ) (v : Attribute) where
   form-gnu k = rw k
 
   module _ (l : Result Verdict ℕ) (q : l ≡ lookup_at table v.field.value) (i : indexed ≡ true) where
-    pub index_live : l ≡ Ok is_live → Ok is_live ≡ low_pc e table v
+    pub index-asked : l ≡ low_pc e table v
     unfolding low_pc pick on_lookup
-    index_live t = rw (i, sym q ∙ t)
-
-    pub index-dead : l ≡ Ok is_dead → Ok is_dead ≡ low_pc e table v
-    unfolding low_pc pick on_lookup
-    index-dead t = rw (i, sym q ∙ t)
-
-    pub index-fails : (n : ℕ) → l ≡ Err n → Err n ≡ low_pc e table v
-    unfolding low_pc pick on_lookup
-    index-fails n t = rw (i, sym q ∙ t)
+    index-asked = of l q
+      where
+        of : (w : Result Verdict ℕ) → w ≡ lookup_at table v.field.value → w ≡ low_pc e table v
+        of (Ok is_live) p = rw (i, sym p)
+        of (Ok is_dead) p = rw (i, sym p)
+        of (Err n) p = rw (i, sym p)

@@ -1,5 +1,5 @@
 -- The references of a unit resolved from offsets to entries, its graph and its marks.
-use Rattle.std.specs.Prelude.{ℕ, suc, ◌≤◌, List, [], ◌∷◌, ◌++◌, length, eqb, None, Option, Some, Err, Result}
+use Rattle.std.specs.Prelude.{ℕ, suc, ◌≤◌, List, [], ◌∷◌, ◌++◌, length, eqb, None, Ok, Option, Some, Err, Result}
 use Rattle.readers.specs.Choice.{pick}
 use Rattle.marking.specs.Graph.{Graph, graph}
 use Rattle.marking.specs.Marks.{marks_of, kept_count}

@@ -10,7 +10,7 @@ ghost use Rattle.marking.specs.Analysis.{sections, ranges_for, rooms, root_of, n
 ghost use Rattle.marking.specs.Analysis.{after_list, header_by};
 ghost use Rattle.marking.specs.Columns.{offsets_in, parents_in, roots_in, ends_in, names_in, column, least, rooms_of};
 ghost use Rattle.marking.specs.Columns.{index_after, answer_of};
-ghost use Rattle.marking.specs.Inner.Columns.{AnalysisInput, Outcome, headed, refusal_of, entry_answer, entry_table, left_by, unit_found};
+ghost use Rattle.marking.specs.Inner.Columns.{AnalysisInput, Outcome, headed, refusal_of, entry_answer, entry_table, left_by, unit_found, root_number};
 
 use crate::addresses::Verdict;
 use crate::keep_list::{keep_refusal, treat, treatment};
@@ -103,6 +103,16 @@ fn root_of(
     treat(verdict, treatment(tags, treatments, declaration.tag))
 }
 
+// A verdict as a row has it: 1 for a root, else 0.
+fn root_number(verdict: Verdict) -> u8
+    ensures { result ≡ root_number verdict }
+{
+    match verdict {
+        Verdict::Live => 1,
+        Verdict::Dead => 0,
+    }
+}
+
 // Whether an entry is a root, then its references. The scan also finds where the entry ends. In its contract, and in that
 // of `analyse_entries`, the range lists of the unit's version stand for both sections of them.
 fn analyse_entry(
@@ -133,8 +143,7 @@ fn analyse_entry(
     let declaration = x.declaration;
     let specs = declaration.attributes;
     let values = x.values;
-    let mut root = 0u8;
-    match root_of(
+    let verdict = match root_of(
         unit,
         abbreviations,
         x,
@@ -146,19 +155,13 @@ fn analyse_entry(
         tags,
         treatments,
     ) {
-        Ok(verdict) => {
-            match verdict {
-                Verdict::Live => {
-                    root = 1;
-                }
-                Verdict::Dead => {}
-            }
-        }
+        Ok(verdict) => verdict,
         Err(n) => {
             return Err(refusal(unit, abbreviations, x, e, n));
         }
-    }
-    match scan_live_die_attrs(
+    };
+    let root = root_number(verdict);
+    let scan = match scan_live_die_attrs(
         unit,
         abbreviations,
         specs,
@@ -169,18 +172,17 @@ fn analyse_entry(
         targets,
         at,
     ) {
-        Ok(scan) => {
-            match scan.end {
-                Some(next) => Ok(EntryAnalysis {
-                    root,
-                    to: scan.place,
-                    next,
-                }),
-                None => Err(4),
-            }
+        Ok(scan) => scan,
+        Err(n) => {
+            return Err(refusal(unit, abbreviations, x, e, n));
         }
-        Err(n) => { Err(refusal(unit, abbreviations, x, e, n)) }
-    }
+    };
+    let next = scan.end.ok_or(4)?;
+    Ok(EntryAnalysis {
+        root,
+        to: scan.place,
+        next,
+    })
 }
 
 // Entry by entry into cleared columns, with room for so many entries and references.

@@ -38,3 +38,11 @@ read_some (Some b) k a r e f =
 -- a refusal that `?` passes on
 pub passed-on : {B E : Type 0} (s : Result B E) (x : E) → IsErrAnd s (λ y. y ≡ x) → s ≡ Err x
 passed-on s x h = let p = err_from_is_err_and s h in p.1 ∙ ap Err p.2
+
+-- equal answers hold equal values
+abbrev value_or : {A E : Type 0} → A → Result A E → A
+value_or d (Ok a) = a
+value_or d (Err x) = d
+
+pub same_ok : {A E : Type 0} (a b : A) → ◌≡◌ {A = Result A E} (Ok a) (Ok b) → a ≡ b
+same_ok a b q = ap (value_or a) q

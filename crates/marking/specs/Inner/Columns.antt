@@ -74,6 +74,11 @@ unit_found abbreviations (Ok (Some h)) = unit_checked h (checked_of abbreviation
 abbrev pub headed : EntryHead → Entry
 headed h = entry_of h h.values
 
+-- a verdict as a row has it
+unfoldable pub root_number : Verdict → ℕ
+root_number Live = 1
+root_number Dead = 0
+
 abbrev pub row_found : ℕ → ℕ → Cursor → Result EntryAnalysis ℕ
 row_found root to next = Ok (record { root = root; to = to; next = next })
 

@@ -16,18 +16,19 @@ loop-x-init c = stage-start _ _ _ _ _ _ _ _ _ _ _ _ _ _ _ c.outside-nesting.ensu
     c.requires
 
 pub returns-then-count-entry_room : goal.returns-then-count-entry_room
-returns-then-count-entry_room c = head-full c.loop-x.invariant _ _ (head_step _ _ _ _ _ _ (entry-headed _ _ _ _ _ _ _ c.entry_head.ensures) _ ((read_some _ _ _ _ c.ok_or.ensures.value c.in_ok-x.was) ∙ ap Some ((read_some _ _ _ _ c.ok_or.ensures.value c.in_ok-x.was) ∙ ap Some c.in-Entry.is)) _ refl) _ c.refusal.ensures c.if-count-entry_room.true
+returns-then-count-entry_room c = head-full c.loop-x.invariant _ _ (head_step _ _ _ _ _ _ (entry-headed _ _ _ _ _ _ _ c.entry_head.ensures) _ (read_some _ _ _ _ c.ok_or.ensures.value c.in_ok-x.was ∙ ap Some c.in-Entry.is) _ refl) _ c.refusal.ensures c.if-count-entry_room.true
 
 pub analyse_entry-requires : goal.analyse_entry-requires
 analyse_entry-requires c = c.requires.listed
 
-pub returns-in_err-root : goal.returns-in_err-root
+pub returns-in_err-root-in-Entry : goal.returns-in_err-root-in-Entry
 unfolding values_of_entry base_of
-returns-in_err-root c = passed-on _ _ c.from_residual-in_err-root.ensures.1 ∙ passed-on _ _ c.from_residual-in_err-root.ensures.1 ∙ head-refused c.loop-x.invariant _ _ (head_step _ _ _ _ _ _ (entry-headed _ _ _ _ _ _ _ c.entry_head.ensures) _ ((read_some _ _ _ _ c.ok_or.ensures.value c.in_ok-x.was) ∙ ap Some ((read_some _ _ _ _ c.ok_or.ensures.value c.in_ok-x.was) ∙ ap Some c.in-Entry.is)) _ refl) c.if-count-entry_room.false _ _ c.base_after-rnglists_base.ensures c.base_after-loclists_base.ensures _ c.analyse_entry.ensures.1 _ (sym c.in_err-root.was ∙ c.analyse_entry.ensures.0)
+returns-in_err-root-in-Entry c = let e = passed-on _ _ c.from_residual-in_err-root-in-Entry.ensures.1 in let h = head-refused c.loop-x.invariant _ _ (head_step _ _ _ _ _ _ (entry-headed _ _ _ _ _ _ _ c.entry_head.ensures) _ (read_some _ _ _ _ c.ok_or.ensures.value c.in_ok-x.was ∙ ap Some c.in-Entry.is) _ refl) c.if-count-entry_room.false _ _ c.base_after-rnglists_base.ensures c.base_after-loclists_base.ensures _ c.analyse_entry.ensures.1 _ (sym c.in_err-root-in-Entry.was ∙ c.analyse_entry.ensures.0)
+    in (e ∙ h.0, h.1)
 
 pub returns-then-place-reference_room : goal.returns-then-place-reference_room
 unfolding values_of_entry base_of
-returns-then-place-reference_room c = head-over c.loop-x.invariant _ _ (head_step _ _ _ _ _ _ (entry-headed _ _ _ _ _ _ _ c.entry_head.ensures) _ ((read_some _ _ _ _ c.ok_or.ensures.value c.in_ok-x.was) ∙ ap Some ((read_some _ _ _ _ c.ok_or.ensures.value c.in_ok-x.was) ∙ ap Some c.in-Entry.is)) _ refl) c.if-count-entry_room.false _ _ c.base_after-rnglists_base.ensures c.base_after-loclists_base.ensures _ c.analyse_entry.ensures.1 _ _ _ (sym c.in_ok-root.was ∙ c.analyse_entry.ensures.0) c.if-place-reference_room.true
+returns-then-place-reference_room c = head-over c.loop-x.invariant _ _ (head_step _ _ _ _ _ _ (entry-headed _ _ _ _ _ _ _ c.entry_head.ensures) _ (read_some _ _ _ _ c.ok_or.ensures.value c.in_ok-x.was ∙ ap Some c.in-Entry.is) _ refl) c.if-count-entry_room.false _ _ c.base_after-rnglists_base.ensures c.base_after-loclists_base.ensures _ c.analyse_entry.ensures.1 _ _ _ (sym c.in_ok-root-in-Entry.was ∙ c.analyse_entry.ensures.0) c.if-place-reference_room.true
 
 pub offset_bounds-offsets-count : goal.offset_bounds-offsets-count
 offset_bounds-offsets-count c = omega (arith, (let z : c.loop-x.count < 2 ^ 60 = omega (arith, c.if-count-entry_room.false, c.loop-x.invariant.few) in z))
@@ -53,22 +54,23 @@ bounds-reference_ends-count c = omega (arith, c.loop-x.invariant.ends-are.size, 
 pub overflow_add-count : goal.overflow_add-count
 overflow_add-count c = omega (arith, (let z : c.loop-x.count < 2 ^ 60 = omega (arith, c.if-count-entry_room.false, c.loop-x.invariant.few) in z))
 
-pub loop-x-smaller-in_ok-root : goal.loop-x-smaller-in_ok-root
+pub loop-x-smaller-in-Entry : goal.loop-x-smaller-in-Entry
 unfolding values_of_entry base_of
-loop-x-smaller-in_ok-root c = let a = head-ahead c.loop-x.invariant _ _ (head_step _ _ _ _ _ _ (entry-headed _ _ _ _ _ _ _ c.entry_head.ensures) _ ((read_some _ _ _ _ c.ok_or.ensures.value c.in_ok-x.was) ∙ ap Some ((read_some _ _ _ _ c.ok_or.ensures.value c.in_ok-x.was) ∙ ap Some c.in-Entry.is)) _ refl) c.if-count-entry_room.false _ _ c.base_after-rnglists_base.ensures c.base_after-loclists_base.ensures _ c.analyse_entry.ensures.1 _ _ _ (sym c.in_ok-root.was ∙ c.analyse_entry.ensures.0) in omega (arith, a.0, a.1)
+loop-x-smaller-in-Entry c = let a = head-ahead c.loop-x.invariant _ _ (head_step _ _ _ _ _ _ (entry-headed _ _ _ _ _ _ _ c.entry_head.ensures) _ (read_some _ _ _ _ c.ok_or.ensures.value c.in_ok-x.was ∙ ap Some c.in-Entry.is) _ refl) c.if-count-entry_room.false _ _ c.base_after-rnglists_base.ensures c.base_after-loclists_base.ensures _ c.analyse_entry.ensures.1 _ _ _ (sym c.in_ok-root-in-Entry.was ∙ c.analyse_entry.ensures.0) in omega (arith, a.0, a.1)
 
-pub loop-x-preserved-in_ok-root : goal.loop-x-preserved-in_ok-root
+pub loop-x-preserved-in-Entry : goal.loop-x-preserved-in-Entry
 unfolding values_of_entry base_of
-loop-x-preserved-in_ok-root c = head-entry c.loop-x.invariant _ _ (head_step _ _ _ _ _ _ (entry-headed _ _ _ _ _ _ _ c.entry_head.ensures) _ ((read_some _ _ _ _ c.ok_or.ensures.value c.in_ok-x.was) ∙ ap Some ((read_some _ _ _ _ c.ok_or.ensures.value c.in_ok-x.was) ∙ ap Some c.in-Entry.is)) _ refl) c.if-count-entry_room.false _ _ c.base_after-rnglists_base.ensures c.base_after-loclists_base.ensures _ c.analyse_entry.ensures.1 _ _ _ (sym c.in_ok-root.was ∙ c.analyse_entry.ensures.0) c.if-place-reference_room.false _ c.after_entry-nesting.ensures
+loop-x-preserved-in-Entry c = head-entry c.loop-x.invariant _ _ (head_step _ _ _ _ _ _ (entry-headed _ _ _ _ _ _ _ c.entry_head.ensures) _ (read_some _ _ _ _ c.ok_or.ensures.value c.in_ok-x.was ∙ ap Some c.in-Entry.is) _ refl) c.if-count-entry_room.false _ _ c.base_after-rnglists_base.ensures c.base_after-loclists_base.ensures _ c.analyse_entry.ensures.1 _ _ _ (sym c.in_ok-root-in-Entry.was ∙ c.analyse_entry.ensures.0) c.if-place-reference_room.false _ c.after_entry-nesting.ensures
 
 pub loop-x-smaller : goal.loop-x-smaller
-loop-x-smaller c = let a = terminator-inside c.args.e _ _ _ _ _ (sym (headed-terminator c.args.e _ _ _ _ _ (entry-headed _ _ _ _ _ _ _ c.entry_head.ensures) _ ((read_some _ _ _ _ c.ok_or.ensures.value c.in_ok-x.was) ∙ ap Some ((read_some _ _ _ _ c.ok_or.ensures.value c.in_ok-x.was) ∙ ap Some c.in-Terminator.is)))) in omega (arith, a.0, a.1)
+loop-x-smaller c = let a = terminator-inside c.args.e _ _ _ _ _ (sym (headed-terminator c.args.e _ _ _ _ _ (entry-headed _ _ _ _ _ _ _ c.entry_head.ensures) _ (read_some _ _ _ _ c.ok_or.ensures.value c.in_ok-x.was ∙ ap Some c.in-Terminator.is))) in omega (arith, a.0, a.1)
 
 pub loop-x-preserved : goal.loop-x-preserved
-loop-x-preserved c = stage-terminator c.loop-x.invariant _ (headed-terminator _ _ _ _ _ _ (entry-headed _ _ _ _ _ _ _ c.entry_head.ensures) _ ((read_some _ _ _ _ c.ok_or.ensures.value c.in_ok-x.was) ∙ ap Some ((read_some _ _ _ _ c.ok_or.ensures.value c.in_ok-x.was) ∙ ap Some c.in-Terminator.is))) _ c.after_terminator-nesting.ensures
+loop-x-preserved c = stage-terminator c.loop-x.invariant _ (headed-terminator _ _ _ _ _ _ (entry-headed _ _ _ _ _ _ _ c.entry_head.ensures) _ (read_some _ _ _ _ c.ok_or.ensures.value c.in_ok-x.was ∙ ap Some c.in-Terminator.is)) _ c.after_terminator-nesting.ensures
 
 pub returns-in-End : goal.returns-in-End
-returns-in-End c = stage-end c.loop-x.invariant (headed-end _ _ _ _ _ _ (entry-headed _ _ _ _ _ _ _ c.entry_head.ensures) ((read_some _ _ _ _ c.ok_or.ensures.value c.in_ok-x.was) ∙ ap Some ((read_some _ _ _ _ c.ok_or.ensures.value c.in_ok-x.was) ∙ ap Some c.in-End.is)))
+returns-in-End c = stage-end c.loop-x.invariant (headed-end _ _ _ _ _ _ (entry-headed _ _ _ _ _ _ _ c.entry_head.ensures) (read_some _ _ _ _ c.ok_or.ensures.value c.in_ok-x.was ∙ ap Some c.in-End.is))
 
 pub returns-in_err-x : goal.returns-in_err-x
-returns-in_err-x c = (refused-none _ _ _ _ _ c.ok_or.ensures.value c.in_err-x.was c.from_residual.ensures.1).1 ∙ (refused-none _ _ _ _ _ c.ok_or.ensures.value c.in_err-x.was c.from_residual.ensures.1).1 ∙ stage-unreadable c.loop-x.invariant (headed-none _ _ _ _ _ _ (entry-headed _ _ _ _ _ _ _ c.entry_head.ensures) (refused-none _ _ _ _ _ c.ok_or.ensures.value c.in_err-x.was c.from_residual.ensures.1).0)
+returns-in_err-x c = let e = refused-none _ _ _ _ _ c.ok_or.ensures.value c.in_err-x.was c.from_residual.ensures.1 in let h = stage-unreadable c.loop-x.invariant (headed-none _ _ _ _ _ _ (entry-headed _ _ _ _ _ _ _ c.entry_head.ensures) e.0)
+    in (e.1 ∙ h.0, h.1)

@@ -1,5 +1,7 @@
 -- `locations_live` asks each location in turn. The invariant: the answer over all attributes is that over those from here on. Assumes nothing.
-use mathlib.Core.Path.{refl}
+use Rattle.std.specs.Prelude.{Ok}
+use Rattle.readers.proofs.Refusing.{passed-on}
+use mathlib.Core.Path.{refl, ap, ◌∙◌}
 use Rattle.marking.proofs.RootTests.{attributes-less, locations-end, locations-list, locations-live, locations-refused, locations-dead}
 use Rattle.marking.proofs.root_test.locations_live.Goals as goal
 
@@ -10,16 +12,16 @@ pub returns-in_default : goal.returns-in_default
 returns-in_default c = search locations-end
 
 pub returns-in-Live : goal.returns-in-Live
-returns-in-Live c = search locations-live
+returns-in-Live c = let v = c.in_ok-location_expr_live.was ∙ ap Ok c.in-Live.is in search locations-live
 
 pub returns-in_err-location_expr_live : goal.returns-in_err-location_expr_live
-returns-in_err-location_expr_live c = search locations-refused
+returns-in_err-location_expr_live c = passed-on _ _ c.from_residual.ensures.1 ∙ let v = c.in_err-location_expr_live.was in search locations-refused
 
 pub loop-a-smaller-in-Dead : goal.loop-a-smaller-in-Dead
 loop-a-smaller-in-Dead c = search attributes-less
 
 pub loop-a-preserved-in-Dead : goal.loop-a-preserved-in-Dead
-loop-a-preserved-in-Dead c = search locations-dead
+loop-a-preserved-in-Dead c = let v = c.in_ok-location_expr_live.was ∙ ap Ok c.in-Dead.is in search locations-dead
 
 pub loop-a-smaller : goal.loop-a-smaller
 loop-a-smaller c = search attributes-less

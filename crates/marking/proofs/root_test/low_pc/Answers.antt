@@ -1,6 +1,6 @@
 -- `low_pc` answers by the form. Assumes nothing.
 use mathlib.Core.Logic.{⊎_elim}
-use Rattle.marking.proofs.Verdicts.{address-dead, address-live, form-low, form-high, form-addrx, form-sized, form-gnu, index_live, index-dead, index-fails}
+use Rattle.marking.proofs.Verdicts.{address-dead, address-live, form-low, form-high, form-addrx, form-sized, form-gnu, index-asked}
 use Rattle.marking.proofs.root_test.low_pc.Goals as goal
 
 pub returns-then-is_tombstone : goal.returns-then-is_tombstone
@@ -15,11 +15,5 @@ returns-then-form-lt-DW_FORM_addrx1 c = search form-low
 pub returns-then-form-ne-DW_FORM_GNU_addr_index : goal.returns-then-form-ne-DW_FORM_GNU_addr_index
 returns-then-form-ne-DW_FORM_GNU_addr_index c = search form-high
 
-pub returns-in-Live : goal.returns-in-Live
-returns-in-Live c = ⊎_elim (λ w. search (index_live, form-gnu)) (λ w. ⊎_elim (λ w. search (index_live, form-sized)) (λ w. search (index_live, form-addrx)) w) c.if-form-ne-DW_FORM_addrx.branch-raw
-
-pub returns-in-Dead : goal.returns-in-Dead
-returns-in-Dead c = ⊎_elim (λ w. search (index-dead, form-gnu)) (λ w. ⊎_elim (λ w. search (index-dead, form-sized)) (λ w. search (index-dead, form-addrx)) w) c.if-form-ne-DW_FORM_addrx.branch-raw
-
-pub returns-in-Fails : goal.returns-in-Fails
-returns-in-Fails c = ⊎_elim (λ w. search (index-fails, form-gnu)) (λ w. ⊎_elim (λ w. search (index-fails, form-sized)) (λ w. search (index-fails, form-addrx)) w) c.if-form-ne-DW_FORM_addrx.branch-raw
+pub returns : goal.returns
+returns c = ⊎_elim (λ w. search (index-asked, form-gnu)) (λ w. ⊎_elim (λ w. search (index-asked, form-sized)) (λ w. search (index-asked, form-addrx)) w) c.if-form-ne-DW_FORM_addrx.branch-raw

@@ -1,24 +1,26 @@
 -- `range_entry` answers an entry of a range list by its kind. Assumes nothing.
+use Rattle.std.specs.Prelude.{Ok}
+use mathlib.Core.Path.{ap, ◌∙◌}
 use Rattle.marking.proofs.Verdicts.{base_live, base-dead, base-fails, start-live, start-dead, start-fails, pair-dead, pair-live, base-address, left_out, kept}
 use Rattle.marking.proofs.root_test.range_entry.Goals as goal
 
 pub returns-in-Live : goal.returns-in-Live
-returns-in-Live c = search base_live
+returns-in-Live c = let v = c.in-Ok.is ∙ ap Ok c.in-Live.is in search base_live
 
 pub returns-in-Dead : goal.returns-in-Dead
-returns-in-Dead c = search base-dead
+returns-in-Dead c = let v = c.in-Ok.is ∙ ap Ok c.in-Dead.is in search base-dead
 
-pub returns-in-Fails : goal.returns-in-Fails
-returns-in-Fails c = search base-fails
+pub returns-in-Err : goal.returns-in-Err
+returns-in-Err c = search base-fails
 
-pub returns-in-Live-lookup : goal.returns-in-Live-lookup
-returns-in-Live-lookup c = search start-live
+pub returns-in-Live-verdict : goal.returns-in-Live-verdict
+returns-in-Live-verdict c = let v = c.in-Ok-lookup.is ∙ ap Ok c.in-Live-verdict.is in search start-live
 
-pub returns-in-Dead-lookup : goal.returns-in-Dead-lookup
-returns-in-Dead-lookup c = search start-dead
+pub returns-in-Dead-verdict : goal.returns-in-Dead-verdict
+returns-in-Dead-verdict c = let v = c.in-Ok-lookup.is ∙ ap Ok c.in-Dead-verdict.is in search start-dead
 
-pub returns-in-Fails-lookup : goal.returns-in-Fails-lookup
-returns-in-Fails-lookup c = search start-fails
+pub returns-in-Err-lookup : goal.returns-in-Err-lookup
+returns-in-Err-lookup c = search start-fails
 
 pub returns-then-dead : goal.returns-then-dead
 returns-then-dead c = search pair-dead

@@ -24,8 +24,8 @@ slice_bounds-mark_with-end-4 c = take_within _ _ c.requires.laid.roots_inside
 pub slice_bounds-mark_with-end-6 : goal.slice_bounds-mark_with-end-6
 slice_bounds-mark_with-end-6 c = take_within _ _ c.requires.laid.marks_inside
 
-pub returns-in_ok-kept : goal.returns-in_ok-kept
-returns-in_ok-kept c = record {
+pub returns : goal.returns
+returns c = record {
   answer = λ rows k. rows-kept rows k _ (c.resolve_by_hints-n.ensures.answer rows k.held) (c.resolve_by_hints-n.ensures.filled rows k.held) _ (sym c.in_ok-kept.was ∙ c.mark_with-marked.ensures.0);
   marks = λ rows k. rows-marks rows k _ (c.resolve_by_hints-n.ensures.answer rows k.held) (c.resolve_by_hints-n.ensures.filled rows k.held) _ c.mark_with-marked.ensures.1;
   pairs = λ rows k. c.resolve_by_hints-n.ensures.filled rows k.held;
@@ -33,8 +33,8 @@ returns-in_ok-kept c = record {
 }
 
 pub returns-in_err-kept : goal.returns-in_err-kept
-returns-in_err-kept c = passed-on _ _ c.from_residual.ensures.1 ∙ record {
-  answer = λ rows k. rows_taken rows k _ (c.resolve_by_hints-n.ensures.answer rows k.held) (c.resolve_by_hints-n.ensures.filled rows k.held) _ (sym c.in_err-kept.was ∙ c.mark_with-marked.ensures.0);
+returns-in_err-kept c = record {
+  answer = λ rows k. passed-on _ _ c.from_residual.ensures.1 ∙ rows_taken rows k _ (c.resolve_by_hints-n.ensures.answer rows k.held) (c.resolve_by_hints-n.ensures.filled rows k.held) _ (sym c.in_err-kept.was ∙ c.mark_with-marked.ensures.0);
   marks = λ rows k. rows-marks rows k _ (c.resolve_by_hints-n.ensures.answer rows k.held) (c.resolve_by_hints-n.ensures.filled rows k.held) _ c.mark_with-marked.ensures.1;
   pairs = λ rows k. c.resolve_by_hints-n.ensures.filled rows k.held;
   work = c.clear_indexes.ensures ∙ ap zeros (c.mark_with-marked.auto.work ∙ c.resolve_by_hints-n.auto.work);

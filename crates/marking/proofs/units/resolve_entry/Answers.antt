@@ -43,9 +43,9 @@ overflow_add-place c = omega (arith, pairing-room _ _ _ _ _ _ _ _ _ _ _ c.loop-j
 pub loop-j-preserved : goal.loop-j-preserved
 loop-j-preserved c = ⊎_elim
     (λ w. pairing-as _ _ _ _ _ _ _ _ _ _ _ _ _ w.pairs-is w.place-is
-    (pairing-more _ _ _ _ _ _ _ _ _ _ _ c.loop-j.invariant c.loop-j-test.true _ c.find_hinted.ensures _ w.in-Entry.is))
+    (pairing-more _ _ _ _ _ _ _ _ _ _ _ c.loop-j.invariant c.loop-j-test.true _ c.find_hinted.ensures _ w.in-Some.is))
     (λ w. pairing-as _ _ _ _ _ _ _ _ _ _ _ _ _ w.pairs-is w.place-is
-    (pairing-none _ _ _ _ _ _ _ _ _ _ _ c.loop-j.invariant c.loop-j-test.true _ c.find_hinted.ensures w.in-Nothing.is))
+    (pairing-none _ _ _ _ _ _ _ _ _ _ _ c.loop-j.invariant c.loop-j-test.true _ c.find_hinted.ensures w.in-None.is))
     c.match-find_hinted.branch-raw
 
 pub returns : goal.returns
