@@ -50,16 +50,10 @@ pub enum Emitted {
 pub(crate) fn bytes_between<'a>(s: &'a [u8], from: usize, to: usize) -> &'a [u8]
     ensures { result.now ≡ between s.now from to }
 {
-    if from >= to {
+    if from >= to || from >= s.len() {
         return &s[0..0];
     }
-    if from >= s.len() {
-        return &s[0..0];
-    }
-    if to > s.len() {
-        return &s[from..];
-    }
-    &s[from..to]
+    &s[from..to.min(s.len())]
 }
 
 // Copies bytes to the start of a part: how many, 0 where there is no room for all.
@@ -163,19 +157,11 @@ fn emit_expression(
 fn is_leb(form: u64) -> bool
     ensures { result ≡ leb_form form }
 {
-    if form == DW_FORM_ref_udata {
-        return true;
-    }
-    if form == DW_FORM_strx {
-        return true;
-    }
-    if form == DW_FORM_loclistx {
-        return true;
-    }
-    if form == DW_FORM_rnglistx {
-        return true;
-    }
-    form == DW_FORM_GNU_str_index
+    form == DW_FORM_ref_udata
+        || form == DW_FORM_strx
+        || form == DW_FORM_loclistx
+        || form == DW_FORM_rnglistx
+        || form == DW_FORM_GNU_str_index
 }
 
 // An index by its rank; as it is where its list is absent.
@@ -191,7 +177,7 @@ fn new_index(list: &[u8], count: ListCount, value: u64, kind: usize, work: &[u32
 fn width(f: Field) -> usize
     ensures { result ≡ f.end - f.start }
 {
-    if f.start <= f.end { f.end - f.start } else { 0 }
+    f.end.saturating_sub(f.start)
 }
 
 // An attribute's value: what stands before it (form numbers, a length) is copied (gc.rs: `emit_attribute`).
@@ -323,16 +309,9 @@ pub enum Plan {
 fn copies(form: u64) -> bool
     ensures { result ≡ true → Copies form }
 {
-    if form < DW_FORM_ref1 {
-        return list_of(form) == 3;
-    }
-    if form <= DW_FORM_indirect {
-        return false;
-    }
-    if form != DW_FORM_exprloc {
-        return list_of(form) == 3;
-    }
-    false
+    (form < DW_FORM_ref1 || form > DW_FORM_indirect)
+        && form != DW_FORM_exprloc
+        && list_of(form) == 3
 }
 
 // The next attribute of an entry: of a value that is copied no more is read than where it ends.

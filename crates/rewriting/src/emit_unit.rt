@@ -121,16 +121,7 @@ pub fn emit_header(
     let at = first.0 as usize;
     let width = e.offset_size as usize;
     let length = length_bytes(e.offset_size);
-    if at < length {
-        return 0;
-    }
-    if at > unit.len() {
-        return 0;
-    }
-    if at > out.len() {
-        return 0;
-    }
-    if bytes < length {
+    if at < length || at > unit.len() || at > out.len() || bytes < length {
         return 0;
     }
     let size = (bytes - length) as u64;

@@ -43,10 +43,8 @@ fn entry_declares(
         };
         p = a.next;
         from = a.values;
-        if a.name == name {
-            if a.declared == DW_FORM_sec_offset {
-                return true;
-            }
+        if a.name == name && a.declared == DW_FORM_sec_offset {
+            return true;
         }
     }
 }
@@ -295,10 +293,8 @@ fn specs_declare(abbreviations: &[u8], specs: Cursor, name: u64) -> bool
         match p.attribute_spec(abbreviations) {
             SpecStep::Attribute(a) => {
                 p = a.next;
-                if a.name == name {
-                    if a.form == DW_FORM_sec_offset {
-                        return true;
-                    }
+                if a.name == name && a.form == DW_FORM_sec_offset {
+                    return true;
                 }
             }
             SpecStep::Last(_) => {
@@ -351,13 +347,9 @@ fn is_absent(
         ((x : Sections) (u : Unit') → ReadAs x u r s bytes → TablesFound u r s table
         → result ≡ is_absent x u name (items_by r s table bytes first.0)) }
 {
-    if name == 0 {
-        return false;
-    }
-    if table_declares(abbreviations, r.from, name) {
-        return any_declares(unit, abbreviations, r, index, first, name);
-    }
-    false
+    name != 0
+        && table_declares(abbreviations, r.from, name)
+        && any_declares(unit, abbreviations, r, index, first, name)
 }
 
 // A list that was gathered: absent, and zeros again, or its count.

@@ -50,21 +50,14 @@ fn is_kept(marks: &[u8], i: EntryIndex) -> bool
     ensures { result ≡ is_kept marks.now i.0 }
 {
     let k = place(i);
-    if k < marks.len() {
-        return marks[k] >= 2;
-    }
-    false
+    k < marks.len() && marks[k] >= 2
 }
 
 // Whether a terminator closes the children of a kept entry.
 fn closes_kept(marks: &[u8], nesting: Nesting) -> bool
     ensures { result ≡ closes_kept marks.now nesting }
 {
-    if nesting.depth == 0 {
-        return false;
-    }
-    let parent = nesting.parent;
-    is_kept(marks, parent)
+    nesting.depth != 0 && is_kept(marks, nesting.parent)
 }
 
 // The number of an entry that ends at a place below 2^63: twice the place, and one more where it has children.
@@ -75,10 +68,7 @@ fn end_number(past: Cursor, children: bool) -> u64
     if end > 0x7fff_ffff_ffff_ffff {
         return 0;
     }
-    if children {
-        return 2 * end + 1;
-    }
-    2 * end
+    2 * end + u64::from(children)
 }
 
 // Puts a 0 after the numbers of a column, if it goes on.
@@ -185,10 +175,7 @@ pub(crate) fn next_kept(
             }
             let n = ends[k];
             let end = (n / 2) as usize;
-            if end < values.at {
-                return KeptStep::End;
-            }
-            if end > unit.len() {
+            if end < values.at || end > unit.len() {
                 return KeptStep::End;
             }
             let kept = is_kept(marks, count);

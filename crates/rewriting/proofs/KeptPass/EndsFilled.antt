@@ -8,6 +8,7 @@ use mathlib.Core.List.{List, [], ◌∷◌}
 use lib.ListN.{length, get_or, set, length-set, get_or-eq_default}
 use lib.Seq.{get_or-set_same, get_or-set_other}
 use Rattle.readers.specs.Abbreviations.{find_at}
+use mir.Val.{bool_byte}
 use Rattle.readers.specs.Choice.{pick}
 use Rattle.readers.specs.Entries.{step_at}
 use Rattle.readers.specs.Stream.{Item, entry, terminator}
@@ -22,13 +23,10 @@ use Rattle.rewriting.specs.Inner.NextKept.{items_by}
 use Rattle.rewriting.specs.declared.kept_items.Reading.{Reading}
 use Rattle.rewriting.proofs.KeptPass.KeptSteps.{items-entry, items-terminator, items-end, items-bad}
 
-pub number-yes : (end : ℕ) (children : Bool) → children ≡ true → end < 2 ^ 63 → 2 * end + 1 ≡ end_number end children
+pub number-is : (end n : ℕ) (children : Bool) → n ≡ bool_byte children → 2 * end + n ≡ end_number end children
 unfolding end_number pick
-number-yes end children q h = sym (ap (end_number end) q)
-
-pub number-no : (end : ℕ) (children : Bool) → children ≡ false → end < 2 ^ 63 → 2 * end ≡ end_number end children
-unfolding end_number pick
-number-no end children q h = sym (ap (end_number end) q)
+number-is end n true e = omega arith
+number-is end n false e = omega arith
 
 -- the number at an entry's place
 pub end-there : (ends : List ℕ) (k i : ℕ) → k ≡ i → get_or ends k 0 ≡ get_or ends i 0

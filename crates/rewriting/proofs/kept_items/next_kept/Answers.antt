@@ -6,6 +6,7 @@ use Rattle.readers.proofs.Values.{step_end}
 use Rattle.rewriting.proofs.KeptPass.KeptSteps.{stand, walking_start, end-end, stop-none, at-terminator, stop-unknown, stop-past, stop-low, stop-high, ends-less, ends_on, ends-item, terminator-less, terminator-item, terminator-on}
 use Rattle.rewriting.proofs.KeptPass.EndsFilled.{end-there}
 use Rattle.rewriting.proofs.kept_items.next_kept.Goals as goal
+use Rattle.rewriting.proofs.kept_items.next_kept.Goals.{then-end-values-via-then-end-values, then-end-values-via-else-end-values+then-end-unit}
 
 pub loop-at-init : goal.loop-at-init
 loop-at-init c = walking_start _ _ _ _ _ _ _ _
@@ -29,10 +30,10 @@ pub returns-then-k-ends : goal.returns-then-k-ends
 returns-then-k-ends c = stop-past _ _ _ _ _ _ _ c.args.s (stand c.loop-at.at.at c.loop-at.count.0 c.loop-at.nesting) c.loop-at.invariant c.if-at-unit.false _ c.uleb.ensures _ _ c.in-Value.is c.if-code-eq0.false _ c.place-k.ensures c.if-k-ends.true
 
 pub returns-then-end-values : goal.returns-then-end-values
-returns-then-end-values c = stop-low _ _ _ _ _ _ _ c.args.s (stand c.loop-at.at.at c.loop-at.count.0 c.loop-at.nesting) c.loop-at.invariant c.if-at-unit.false _ c.uleb.ensures _ _ c.in-Value.is c.if-code-eq0.false _ (end-there c.args.ends.now _ _ c.place-k.ensures) c.if-end-values.true
-
-pub returns-then-end-unit : goal.returns-then-end-unit
-returns-then-end-unit c = stop-high _ _ _ _ _ _ _ c.args.s (stand c.loop-at.at.at c.loop-at.count.0 c.loop-at.nesting) c.loop-at.invariant c.if-at-unit.false _ c.uleb.ensures _ _ c.in-Value.is c.if-code-eq0.false _ (end-there c.args.ends.now _ _ c.place-k.ensures) c.if-end-unit.true
+returns-then-end-values c = elim c.then-end-values.branch [
+  then-end-values-via-then-end-values w ↦ stop-low _ _ _ _ _ _ _ c.args.s (stand c.loop-at.at.at c.loop-at.count.0 c.loop-at.nesting) c.loop-at.invariant c.if-at-unit.false _ c.uleb.ensures _ _ c.in-Value.is c.if-code-eq0.false _ (end-there c.args.ends.now _ _ c.place-k.ensures) w.if-end-values.true
+  | then-end-values-via-else-end-values+then-end-unit w ↦ stop-high _ _ _ _ _ _ _ c.args.s (stand c.loop-at.at.at c.loop-at.count.0 c.loop-at.nesting) c.loop-at.invariant c.if-at-unit.false _ c.uleb.ensures _ _ c.in-Value.is c.if-code-eq0.false _ (end-there c.args.ends.now _ _ c.place-k.ensures) w.if-end-unit.true
+]
 
 pub overflow_add-count : goal.overflow_add-count
 overflow_add-count c = omega (arith, c.place-k.ensures, c.if-k-ends.false, c.well_formed.1.1.1.1.1.0.0)
