@@ -215,85 +215,42 @@ fn emit_attribute(
     let field = v.field;
     let form = v.form;
     let to = emit_bytes(bytes_between(unit, values.at, field.start), out);
+    let part = &mut out[to..];
     let leb = is_leb(form);
     if form == DW_FORM_exprloc {
         return after(
             to,
-            emit_expression(
-                field.expression(unit),
-                e,
-                map,
-                places,
-                &mut out[to..],
-                bounds,
-            ),
+            emit_expression(field.expression(unit), e, map, places, part, bounds),
         );
     }
-    if form >= DW_FORM_ref1 {
-        if form <= DW_FORM_ref_udata {
-            if a.name == DW_AT_sibling {
-                return after(
-                    to,
-                    emit_offset(
-                        sibling_offset(map, places, bounds, UnitOffset(field.value), depth),
-                        width(field),
-                        leb,
-                        e.big_endian,
-                        &mut out[to..],
-                    ),
-                );
-            }
-            return after(
-                to,
-                emit_offset(
-                    hinted_offset(map, places, bounds, UnitOffset(field.value)),
-                    width(field),
-                    leb,
-                    e.big_endian,
-                    &mut out[to..],
-                ),
-            );
-        }
+    if form >= DW_FORM_ref1 && form <= DW_FORM_ref_udata {
+        let old = UnitOffset(field.value);
+        let new = if a.name == DW_AT_sibling {
+            sibling_offset(map, places, bounds, old, depth)
+        } else {
+            hinted_offset(map, places, bounds, old)
+        };
+        return after(
+            to,
+            emit_offset(new, width(field), leb, e.big_endian, part),
+        );
     }
     let list = list_of(form);
-    if list == 0 {
-        return after(
-            to,
-            emit_number(
-                new_index(ranges, ranges_count, field.value, 0, bounds),
-                width(field),
-                leb,
-                e.big_endian,
-                &mut out[to..],
-            ),
-        );
+    if list > 2 {
+        let n = emit_bytes(bytes_between(unit, field.start, field.end), part);
+        return Emitted::To(to + n);
     }
-    if list == 1 {
-        return after(
-            to,
-            emit_number(
-                new_index(locations, locations_count, field.value, 1, bounds),
-                width(field),
-                leb,
-                e.big_endian,
-                &mut out[to..],
-            ),
-        );
-    }
-    if list == 2 {
-        return after(
-            to,
-            emit_number(
-                new_index(strings, strings_count, field.value, 2, bounds),
-                width(field),
-                leb,
-                e.big_endian,
-                &mut out[to..],
-            ),
-        );
-    }
-    let n = emit_bytes(bytes_between(unit, field.start, field.end), &mut out[to..]);
-    Emitted::To(to + n)
+    let index = if list == 0 {
+        new_index(ranges, ranges_count, field.value, 0, bounds)
+    } else if list == 1 {
+        new_index(locations, locations_count, field.value, 1, bounds)
+    } else {
+        new_index(strings, strings_count, field.value, 2, bounds)
+    };
+    after(
+        to,
+        emit_number(index, width(field), leb, e.big_endian, part),
+    )
 }
 
 // What is to be done with the next attribute: a value that is copied, by the cursors past it and past its specification;
