@@ -17,9 +17,6 @@ slice_bounds-emit_dies-count c = omega (arith, inside _ _ _ (header-inside _ _ _
 pub slice_bounds-emit_dies-start : goal.slice_bounds-emit_dies-start
 slice_bounds-emit_dies-start c = omega (arith, inside _ _ _ (header-inside _ _ _ _ _ _ _ c.emit_header-at.ensures.count c.emit_header-at.ensures.part))
 
-pub slice_bounds-emit_dies-end : goal.slice_bounds-emit_dies-end
-slice_bounds-emit_dies-end c = omega (arith, inside _ _ _ (header-inside _ _ _ _ _ _ _ c.emit_header-at.ensures.count c.emit_header-at.ensures.part))
-
 pub returns-in-To : goal.returns-in-To
 returns-in-To c = unit-written _ _ _ _ _ _ _ _ _ _ _ _ _ _ _ _ _ _ _ c.place_items-size.ensures.0 _ c.place_items-size.ensures.1 c.place_items-size.auto.map c.if-size-map.false c.if-size-out.false _ _ _ c.fill_work.ensures c.emit_header-at.auto.out _ (λ f. header-there _ _ _ _ _ f _ _ c.emit_header-at.ensures.count c.emit_header-at.ensures.part) _ (λ x u lists ps p q m n b g. emits-on _ _ _ (header-inside _ _ _ _ _ _ _ c.emit_header-at.ensures.count c.emit_header-at.ensures.part) (c.emit_dies.ensures.bytes x u lists ps p q m n b g)) _ (onward-to _ _ _ c.in-To.is)
 

@@ -4,9 +4,6 @@ use native.Mathlib.Omega.{arith}
 use Rattle.rewriting.proofs.WritePass.Emissions.{onward-to, onward-no}
 use Rattle.rewriting.proofs.emit_entry.after.Goals as goal
 
-pub overflow_add-result : goal.overflow_add-result
-overflow_add-result c = omega (arith, c.requires _ c.in-To.is)
-
 pub returns-in-To : goal.returns-in-To
 returns-in-To c = sym (onward-to _ _ _ c.in-To.is)
 

@@ -11,15 +11,6 @@ use Rattle.rewriting.proofs.emit_entry.emit_entry.Goals as goal
 pub loop-past-init : goal.loop-past-init
 loop-past-init c = (within-self (copied-within _ _ _ _ c.emit_bytes-to.ensures.count c.emit_bytes-to.ensures.part), λ lists ps whole rest m n b lent i d. entering-begin lists ps _ _ _ _ whole _ _ _ _ rest i d)
 
-pub slice_bounds-emit_bytes-count : goal.slice_bounds-emit_bytes-count
-slice_bounds-emit_bytes-count c = omega (arith, inside _ _ _ c.loop-past.invariant.0)
-
-pub slice_bounds-emit_bytes-start : goal.slice_bounds-emit_bytes-start
-slice_bounds-emit_bytes-start c = omega (arith, inside _ _ _ c.loop-past.invariant.0)
-
-pub slice_bounds-emit_bytes-end : goal.slice_bounds-emit_bytes-end
-slice_bounds-emit_bytes-end c = omega (arith, inside _ _ _ c.loop-past.invariant.0)
-
 pub overflow_add-to : goal.overflow_add-to
 overflow_add-to c = record { fits = after_small _ _ _ c.loop-past.invariant.0 _ _ (copied-within _ _ _ _ c.emit_bytes-n.ensures.count c.emit_bytes-n.ensures.part) (size_small (copied-within _ _ _ _ c.emit_bytes-to.ensures.count c.emit_bytes-to.ensures.part) c.well_formed.1.1.1.1.1.1.1.1.1.1.1.1.1.1.1.1.0.0) _ refl }
 
@@ -34,18 +25,6 @@ loop-past-preserved-in-Copy c = (
       (c.loop-past.invariant.1 lists ps reads after m n b lent i k) _ _
       (copied_on _ _ _ c.loop-past.invariant.0 _ _ _ c.emit_bytes-n.ensures.count c.emit_bytes-n.ensures.part _ c.bytes_between-in-Copy.ensures),
 )
-
-pub slice_bounds-emit_attribute-count : goal.slice_bounds-emit_attribute-count
-slice_bounds-emit_attribute-count c = omega (arith, inside _ _ _ c.loop-past.invariant.0)
-
-pub slice_bounds-emit_attribute-start : goal.slice_bounds-emit_attribute-start
-slice_bounds-emit_attribute-start c = omega (arith, inside _ _ _ c.loop-past.invariant.0)
-
-pub slice_bounds-emit_attribute-end : goal.slice_bounds-emit_attribute-end
-slice_bounds-emit_attribute-end c = omega (arith, inside _ _ _ c.loop-past.invariant.0)
-
-pub overflow_add-to-in-To : goal.overflow_add-to-in-To
-overflow_add-to-in-To c = record { fits = after_small _ _ _ c.loop-past.invariant.0 _ _ c.emit_attribute.ensures.within (size_small (copied-within _ _ _ _ c.emit_bytes-to.ensures.count c.emit_bytes-to.ensures.part) c.well_formed.1.1.1.1.1.1.1.1.1.1.1.1.1.1.1.1.0.0) _ c.in-To.is }
 
 pub returns-in-Refused : goal.returns-in-Refused
 returns-in-Refused c = record {

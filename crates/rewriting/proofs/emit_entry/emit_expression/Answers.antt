@@ -11,24 +11,6 @@ use Rattle.rewriting.proofs.emit_entry.emit_expression.Goals as goal
 pub loop-r-init : goal.loop-r-init
 loop-r-init c = (within-start _, omega arith, omega arith, λ lists ps depth pieces h p q. going_start lists ps depth pieces _ _ _ _ (are-bytes c.args.s.now c.type_inv.s) q)
 
-pub slice_bounds-emit_bytes-count : goal.slice_bounds-emit_bytes-count
-slice_bounds-emit_bytes-count c = omega (arith, c.loop-r.invariant.1, c.loop-r.invariant.2)
-
-pub slice_bounds-emit_bytes-start : goal.slice_bounds-emit_bytes-start
-slice_bounds-emit_bytes-start c = omega (arith, c.loop-r.invariant.1, c.loop-r.invariant.2)
-
-pub slice_bounds-emit_bytes-end : goal.slice_bounds-emit_bytes-end
-slice_bounds-emit_bytes-end c = omega (arith, c.loop-r.invariant.1, c.loop-r.invariant.2)
-
-pub slice_bounds-emit_bytes-count-in_default : goal.slice_bounds-emit_bytes-count-in_default
-slice_bounds-emit_bytes-count-in_default c = omega (arith, inside _ _ _ c.loop-r.invariant.0)
-
-pub slice_bounds-emit_bytes-start-in_default : goal.slice_bounds-emit_bytes-start-in_default
-slice_bounds-emit_bytes-start-in_default c = omega (arith, inside _ _ _ c.loop-r.invariant.0)
-
-pub slice_bounds-emit_bytes-end-in_default : goal.slice_bounds-emit_bytes-end-in_default
-slice_bounds-emit_bytes-end-in_default c = omega (arith, inside _ _ _ c.loop-r.invariant.0)
-
 pub overflow_add-result : goal.overflow_add-result
 overflow_add-result c = record { fits = after_small _ _ _ c.loop-r.invariant.0 _ _ (copied-within _ _ _ _ c.emit_bytes-n.ensures.count c.emit_bytes-n.ensures.part) c.well_formed.1.1.1.1.0.0 _ refl }
 
@@ -47,15 +29,6 @@ slice_bounds-emit_bytes-start-in-loop-r c = omega (arith, c.loop-r.invariant.1, 
 pub slice_bounds-emit_bytes-end-in-loop-r : goal.slice_bounds-emit_bytes-end-in-loop-r
 slice_bounds-emit_bytes-end-in-loop-r c = omega (arith, c.loop-r.invariant.1, (next-placed _ _ _ _ c.next_reference.ensures _ c.in-Reference.is).0, (next-placed _ _ _ _ c.next_reference.ensures _ c.in-Reference.is).1, (next-placed _ _ _ _ c.next_reference.ensures _ c.in-Reference.is).2)
 
-pub slice_bounds-emit_bytes-count-in-loop-r-2 : goal.slice_bounds-emit_bytes-count-in-loop-r-2
-slice_bounds-emit_bytes-count-in-loop-r-2 c = omega (arith, inside _ _ _ c.loop-r.invariant.0)
-
-pub slice_bounds-emit_bytes-start-in-loop-r-2 : goal.slice_bounds-emit_bytes-start-in-loop-r-2
-slice_bounds-emit_bytes-start-in-loop-r-2 c = omega (arith, inside _ _ _ c.loop-r.invariant.0)
-
-pub slice_bounds-emit_bytes-end-in-loop-r-2 : goal.slice_bounds-emit_bytes-end-in-loop-r-2
-slice_bounds-emit_bytes-end-in-loop-r-2 c = omega (arith, inside _ _ _ c.loop-r.invariant.0)
-
 pub overflow_add-to : goal.overflow_add-to
 overflow_add-to c = record { fits = after_small _ _ _ c.loop-r.invariant.0 _ _ (copied-within _ _ _ _ c.emit_bytes-n-in-loop-r.ensures.count c.emit_bytes-n-in-loop-r.ensures.part) c.well_formed.1.1.1.1.0.0 _ refl }
 
@@ -64,9 +37,6 @@ slice_bounds-emit_offset-count c = omega (arith, inside _ _ _ (within_on _ _ _ c
 
 pub slice_bounds-emit_offset-start : goal.slice_bounds-emit_offset-start
 slice_bounds-emit_offset-start c = omega (arith, inside _ _ _ (within_on _ _ _ c.loop-r.invariant.0 _ _ (copied-within _ _ _ _ c.emit_bytes-n-in-loop-r.ensures.count c.emit_bytes-n-in-loop-r.ensures.part) _ refl))
-
-pub slice_bounds-emit_offset-end : goal.slice_bounds-emit_offset-end
-slice_bounds-emit_offset-end c = omega (arith, inside _ _ _ (within_on _ _ _ c.loop-r.invariant.0 _ _ (copied-within _ _ _ _ c.emit_bytes-n-in-loop-r.ensures.count c.emit_bytes-n-in-loop-r.ensures.part) _ refl))
 
 pub overflow_add-to-in-To : goal.overflow_add-to-in-To
 overflow_add-to-in-To c = record { fits = after_small _ _ _ (within_on _ _ _ c.loop-r.invariant.0 _ _ (copied-within _ _ _ _ c.emit_bytes-n-in-loop-r.ensures.count c.emit_bytes-n-in-loop-r.ensures.part) _ refl) _ _ c.emit_offset.ensures.within c.well_formed.1.1.1.1.0.0 _ c.in-To.is }

@@ -15,18 +15,6 @@ returns-in_default c = record {
   bytes = λ x u lists ps p q h k b g. from_start (writing-end _ _ _ _ _ _ _ _ x u lists ps p _ _ _ _ (c.loop-x.invariant.1 x u lists ps p q h k b g) _ c.next_kept.ensures c.in_default.is);
 }
 
-pub slice_bounds-emit_entry-count : goal.slice_bounds-emit_entry-count
-slice_bounds-emit_entry-count c = omega (arith, inside _ _ _ c.loop-x.invariant.0)
-
-pub slice_bounds-emit_entry-start : goal.slice_bounds-emit_entry-start
-slice_bounds-emit_entry-start c = omega (arith, inside _ _ _ c.loop-x.invariant.0)
-
-pub slice_bounds-emit_entry-end : goal.slice_bounds-emit_entry-end
-slice_bounds-emit_entry-end c = omega (arith, inside _ _ _ c.loop-x.invariant.0)
-
-pub overflow_add-to : goal.overflow_add-to
-overflow_add-to c = record { fits = after_small _ _ _ c.loop-x.invariant.0 _ _ c.emit_entry.ensures.within c.well_formed.1.1.1.1.1.1.1.1.1.1.1.1.1.1.1.1.1.0.0 _ c.in-To.is }
-
 pub loop-x-smaller-in-To : goal.loop-x-smaller-in-To
 loop-x-smaller-in-To c = search next-less
 
@@ -38,15 +26,6 @@ returns-in-Refused c = record {
   within = within-stop _ _ _ c.loop-x.invariant.0 _ _ c.emit_entry.ensures.within _;
   bytes = λ x u lists ps p q h k b g. from_start (writing-refused _ _ _ _ _ _ _ _ x u lists ps p _ _ _ _ (c.loop-x.invariant.1 x u lists ps p q h k b g) _ c.next_kept.ensures c.in-Item.x c.in-Item.is c.if-x.true _ _ (λ look z rs rest s t v d. emits-on _ _ _ c.loop-x.invariant.0 (c.emit_entry.ensures.bytes lists ps look z rs rest h k b g s t v d)) _ (onward-no _ _ _ c.in-Refused.is));
 }
-
-pub slice_bounds-emit_bytes-count : goal.slice_bounds-emit_bytes-count
-slice_bounds-emit_bytes-count c = omega (arith, inside _ _ _ c.loop-x.invariant.0)
-
-pub slice_bounds-emit_bytes-start : goal.slice_bounds-emit_bytes-start
-slice_bounds-emit_bytes-start c = omega (arith, inside _ _ _ c.loop-x.invariant.0)
-
-pub slice_bounds-emit_bytes-end : goal.slice_bounds-emit_bytes-end
-slice_bounds-emit_bytes-end c = omega (arith, inside _ _ _ c.loop-x.invariant.0)
 
 pub overflow_add-to-else-x : goal.overflow_add-to-else-x
 overflow_add-to-else-x c = record { fits = after_small _ _ _ c.loop-x.invariant.0 _ _ (copied-within _ _ _ _ c.emit_bytes-n.ensures.count c.emit_bytes-n.ensures.part) c.well_formed.1.1.1.1.1.1.1.1.1.1.1.1.1.1.1.1.1.0.0 _ refl }

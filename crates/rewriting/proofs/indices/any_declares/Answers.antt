@@ -3,9 +3,6 @@ use mathlib.Core.Path.{refl}
 use Rattle.rewriting.proofs.ListPass.IndexTurns.{any-end, any-bad, any-terminator-less, any-terminator, any-entry-less, any-yes, any-no}
 use Rattle.rewriting.proofs.indices.any_declares.Goals as goal
 
-pub loop-x-init : goal.loop-x-init
-loop-x-init c = λ x u w. refl
-
 pub returns-then-entry_declares : goal.returns-then-entry_declares
 returns-then-entry_declares c = search any-yes
 

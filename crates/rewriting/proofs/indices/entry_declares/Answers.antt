@@ -4,9 +4,6 @@ use Rattle.rewriting.proofs.ListPass.IndexTurns.{attributes-less, declares-end, 
 use Rattle.rewriting.proofs.indices.entry_declares.Goals as goal
 use Rattle.rewriting.proofs.indices.entry_declares.Goals.{else-a-name-via-then-a-name+else-a-eq-DW_FORM_sec_offset, else-a-name-via-else-a-name}
 
-pub loop-a-init : goal.loop-a-init
-loop-a-init c = refl
-
 pub returns-in_default : goal.returns-in_default
 returns-in_default c = search declares-end
 

@@ -5,9 +5,6 @@ use Rattle.readers.proofs.FormKinds.{form-list}
 use Rattle.rewriting.proofs.ListPass.Holdings.{onward-start, onward-more, onward-end}
 use Rattle.rewriting.proofs.indices.entry_gather.Goals as goal
 
-pub loop-a-init : goal.loop-a-init
-loop-a-init c = ((refl, onward-start _ _ _), (refl, onward-start _ _ _), (refl, onward-start _ _ _))
-
 pub returns-in_default : goal.returns-in_default
 returns-in_default c = (
   onward-end _ _ _ _ _ _ c.loop-a.invariant.0.1 (indices-end 0 _ _ _ _ _ _ c.next_attribute.ensures c.in_default.is),

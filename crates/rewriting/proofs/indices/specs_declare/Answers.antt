@@ -4,9 +4,6 @@ use Rattle.rewriting.proofs.ListPass.Declaring.{specs-last, specs-bad, specs-les
 use Rattle.rewriting.proofs.indices.specs_declare.Goals as goal
 use Rattle.rewriting.proofs.indices.specs_declare.Goals.{else-a-name-via-then-a-name+else-a-eq-DW_FORM_sec_offset, else-a-name-via-else-a-name}
 
-pub loop-a-init : goal.loop-a-init
-loop-a-init c = refl
-
 pub returns-then-a-eq-DW_FORM_sec_offset : goal.returns-then-a-eq-DW_FORM_sec_offset
 returns-then-a-eq-DW_FORM_sec_offset c = search specs-yes
 

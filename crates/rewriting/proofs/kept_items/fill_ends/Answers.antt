@@ -3,17 +3,8 @@ use native.Mathlib.Omega.{arith}
 use Rattle.rewriting.proofs.KeptPass.EndsFilled.{ending-start, ending-end, ending-bad, ending-terminator-less, ending-terminator, ending-full, ending-entry-less, ending-entry}
 use Rattle.rewriting.proofs.kept_items.fill_ends.Goals as goal
 
-pub loop-x-init : goal.loop-x-init
-loop-x-init c = ending-start _ _ _ _ _ _
-
 pub returns-then-k-ends : goal.returns-then-k-ends
 returns-then-k-ends c = search ending-full
-
-pub offset_bounds-ends-k : goal.offset_bounds-ends-k
-offset_bounds-ends-k c = omega (arith, c.loop-x.invariant.size, c.well_formed.1.1.1.1.1.0.1)
-
-pub overflow_add-count : goal.overflow_add-count
-overflow_add-count c = omega (arith, c.loop-x.invariant.size, c.well_formed.1.1.1.1.1.0.0)
 
 pub loop-x-smaller-in-Entry : goal.loop-x-smaller-in-Entry
 loop-x-smaller-in-Entry c = search ending-entry-less

@@ -8,9 +8,6 @@ use Rattle.rewriting.proofs.KeptPass.EndsFilled.{end-there}
 use Rattle.rewriting.proofs.kept_items.next_kept.Goals as goal
 use Rattle.rewriting.proofs.kept_items.next_kept.Goals.{then-end-values-via-then-end-values, then-end-values-via-else-end-values+then-end-unit}
 
-pub loop-at-init : goal.loop-at-init
-loop-at-init c = walking_start _ _ _ _ _ _ _ _
-
 pub returns-then-at-unit : goal.returns-then-at-unit
 returns-then-at-unit c = end-end _ _ _ _ _ _ _ c.args.s (stand c.loop-at.at.at c.loop-at.count.0 c.loop-at.nesting) c.loop-at.invariant (sym (step_end _ _ _ _ _ c.if-at-unit.true))
 
@@ -34,9 +31,6 @@ returns-then-end-values c = elim c.then-end-values.branch [
   then-end-values-via-then-end-values w ↦ stop-low _ _ _ _ _ _ _ c.args.s (stand c.loop-at.at.at c.loop-at.count.0 c.loop-at.nesting) c.loop-at.invariant c.if-at-unit.false _ c.uleb.ensures _ _ c.in-Value.is c.if-code-eq0.false _ (end-there c.args.ends.now _ _ c.place-k.ensures) w.if-end-values.true
   | then-end-values-via-else-end-values+then-end-unit w ↦ stop-high _ _ _ _ _ _ _ c.args.s (stand c.loop-at.at.at c.loop-at.count.0 c.loop-at.nesting) c.loop-at.invariant c.if-at-unit.false _ c.uleb.ensures _ _ c.in-Value.is c.if-code-eq0.false _ (end-there c.args.ends.now _ _ c.place-k.ensures) w.if-end-unit.true
 ]
-
-pub overflow_add-count : goal.overflow_add-count
-overflow_add-count c = omega (arith, c.place-k.ensures, c.if-k-ends.false, c.well_formed.1.1.1.1.1.0.0)
 
 pub returns-in_default-find_declaration : goal.returns-in_default-find_declaration
 returns-in_default-find_declaration c = stop-unknown _ _ _ _ _ _ _ c.args.s (stand c.loop-at.at.at c.loop-at.count.0 c.loop-at.nesting) c.loop-at.invariant c.if-at-unit.false _ c.uleb.ensures _ _ c.in-Value.is c.if-code-eq0.false _ (found_at _ _ _ _ _ c.find_declaration.ensures) c.in_default-find_declaration.is

@@ -6,9 +6,6 @@ use Rattle.rewriting.proofs.numbers.put_number.Goals as goal
 pub returns-then-width-out : goal.returns-then-width-out
 returns-then-width-out c = number-beyond _ _ _ _ _ c.if-leb.true c.if-width-out.true
 
-pub slice_bounds-write_uleb128_padded-end-then-leb : goal.slice_bounds-write_uleb128_padded-end-then-leb
-slice_bounds-write_uleb128_padded-end-then-leb c = search taken-length
-
 pub returns-in-Written : goal.returns-in-Written
 returns-in-Written c = number-written _ _ _ _ _ c.if-leb.true c.if-width-out.false _ (sym (taken-length _ _ c.if-width-out.false)) _ _ c.write_uleb128_padded.ensures.answer c.write_uleb128_padded.ensures.bytes _ refl c.in-Written.is
 

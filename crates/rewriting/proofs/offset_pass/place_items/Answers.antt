@@ -23,12 +23,6 @@ overflow_add-new c = let f = measuring-fits _ _ _ _ _ _ _ _ _ c.loop-x.invariant
     let z : c.loop-x.new.0 + (c.in-Item.x.end.at - c.in-Item.x.start.0) < 18446744073709551616 = omega (arith, g, h, c.well_formed.0.1) in
     record { fits = z }
 
-pub overflow_add-places : goal.overflow_add-places
-overflow_add-places c = let f = measuring-fits _ _ _ _ _ _ _ _ _ c.loop-x.invariant.measuring _ c.next_kept.ensures _ c.in-Item.is in
-    let g : c.loop-x.places < c.in-Item.x.end.at = f.0 in
-    let h : c.in-Item.x.end.at ≤ length c.args.unit.now = f.3 in
-    omega (arith, g, h, c.well_formed.0.1)
-
 pub loop-x-smaller : goal.loop-x-smaller
 loop-x-smaller c = search next-less
 
