@@ -5,7 +5,7 @@ use native.Mathlib.Omega.{arith}
 use native.Mathlib.Numerals.{add-one}
 use mathlib.Core.Bool.{Bool, true, false}
 use mathlib.Core.List.{List, [], ◌∷◌}
-use lib.ListN.{length, get_or, set, length-set, get_or-eq_default}
+use lib.ListN.{length, get_or, set, length-set}
 use lib.Seq.{get_or-set_same, get_or-set_other}
 use Rattle.readers.specs.Abbreviations.{find_at}
 use mir.Val.{bool_byte}
@@ -31,17 +31,6 @@ number-is end n false e = omega arith
 -- the number at an entry's place
 pub end-there : (ends : List ℕ) (k i : ℕ) → k ≡ i → get_or ends k 0 ≡ get_or ends i 0
 end-there ends k i e = ap (λ (n : ℕ). get_or ends n 0) e
-
-pub end-outside : (ends : List ℕ) (k i : ℕ) → k ≡ i → length ends ≤ k → 0 ≡ get_or ends i 0
-end-outside ends k i e h = sym (get_or-eq_default ends 0 h) ∙ end-there ends k i e
-
--- a column that has ended
-pub ended-out : (ends : List ℕ) (k count : ℕ) → k ≡ count → length ends ≤ k → get_or ends count 0 ≡ 0
-ended-out ends k count e h = sym (end-outside ends k count e h)
-
-pub ended-in : (ends : List ℕ) (k count : ℕ) → k ≡ count → k < length ends
-    → (get_or (set ends k 0) count 0 ≡ 0) × ((i : ℕ) → i < count → get_or (set ends k 0) i 0 ≡ get_or ends i 0)
-ended-in ends k count e h = (sym (end-there (set ends k 0) k count e) ∙ get_or-set_same ends k 0 0 h, λ i l. get_or-set_other ends k i 0 0 (λ z. omega arith))
 
 module _ (r : Reading) (abbreviations index unit : List ℕ) (first : ℕ) (ends₀ : List ℕ) where
   abbrev items : ℕ → List Item

@@ -202,9 +202,6 @@ old-read map i r f ps h e l = old-held ps map h i (omega (arith, length-olds ps)
 
 -- ---- the search in any map
 
-pub has_there : (o a v : ℕ) → o ≡ a → eqb o v ≡ eqb a v
-has_there o a v e = ap (λ n. eqb n v) e
-
 module _ (map : List ℕ) (places i v : ℕ) where
   pub found-there : (n : UnitOffset) → i < places → old_at map i ≡ v → n.0 ≡ new_at map i → To n ≡ found_at map places v i
   unfolding found_at

@@ -1,6 +1,5 @@
 -- `after`: the count goes on, a refusal stays. Assumes nothing.
 use mathlib.Core.Path.{sym}
-use native.Mathlib.Omega.{arith}
 use Rattle.rewriting.proofs.WritePass.Emissions.{onward-to, onward-no}
 use Rattle.rewriting.proofs.emit_entry.after.Goals as goal
 

@@ -1,8 +1,7 @@
 -- `emit_entry`: the invariant is that the answer from here on is that of all attributes. Assumes nothing.
 use mathlib.Core.Path.{refl, ap}
-use native.Mathlib.Omega.{arith}
 use Rattle.readers.specs.declared.cursor.Cursor.{Cursor}
-use Rattle.rewriting.proofs.WritePass.Emissions.{from_start, within-self, within-trans, within_on, within-stop, inside, copied-front, copied-within, copied_on, emits-on, size_small, after_small, onward-to, onward-no}
+use Rattle.rewriting.proofs.WritePass.Emissions.{from_start, within-self, within-trans, within_on, within-stop, copied-front, copied-within, copied_on, emits-on, size_small, after_small, onward-to, onward-no}
 use Rattle.rewriting.proofs.WritePass.EntryEmits.{entering-begin, entry_done, entering-less, entering-end, entering-refused, entering-on}
 use Rattle.rewriting.proofs.MapPass.Exact.{are-bytes}
 use Rattle.rewriting.proofs.WritePass.Plans.{plan-over, plan-more, plan-copied, copied-less, entering-copied}

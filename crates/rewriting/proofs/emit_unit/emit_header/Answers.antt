@@ -1,7 +1,7 @@
 -- `emit_header`: the header copied, its length written over it. Assumes nothing.
 use mathlib.Core.Path.{sym, ◌∙◌}
 use Rattle.rewriting.proofs.WritePass.Putting.{bytes-room}
-use Rattle.rewriting.proofs.WritePass.HeaderEmits.{header-taken, header-low, header-past, header-short, header-few, header-large, header-put}
+use Rattle.rewriting.proofs.WritePass.HeaderEmits.{header-low, header-past, header-short, header-few, header-large, header-put}
 use Rattle.rewriting.proofs.emit_unit.emit_header.Goals as goal
 use Rattle.rewriting.proofs.emit_unit.emit_header.Goals.{then-at-length-via-then-at-length, then-at-length-via-else-at-length+then-at-unit, then-at-length-via-else-at-length+else-at-unit+then-at-out, then-at-length-via-else-at-length+else-at-unit+else-at-out+then-bytes-length}
 

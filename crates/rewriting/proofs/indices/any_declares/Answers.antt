@@ -1,5 +1,4 @@
 -- `any_declares`: what the items from the start on declare is what those from here on do. Assumes nothing.
-use mathlib.Core.Path.{refl}
 use Rattle.rewriting.proofs.ListPass.IndexTurns.{any-end, any-bad, any-terminator-less, any-terminator, any-entry-less, any-yes, any-no}
 use Rattle.rewriting.proofs.indices.any_declares.Goals as goal
 

@@ -1,5 +1,4 @@
 -- `entry_declares`: what all attributes declare is what those from here on do. Assumes nothing.
-use mathlib.Core.Path.{refl}
 use Rattle.rewriting.proofs.ListPass.IndexTurns.{attributes-less, declares-end, declares-yes, declares-form, declares-name}
 use Rattle.rewriting.proofs.indices.entry_declares.Goals as goal
 use Rattle.rewriting.proofs.indices.entry_declares.Goals.{else-a-name-via-then-a-name+else-a-eq-DW_FORM_sec_offset, else-a-name-via-else-a-name}

@@ -1,8 +1,8 @@
 -- `entry_gather`: each list has the entry's indices so far, and is to get those from here on. Assumes nothing.
-use mathlib.Core.Path.{refl, ◌∙◌}
+use mathlib.Core.Path.{◌∙◌}
 use Rattle.rewriting.proofs.ListPass.IndexTurns.{attributes-less, indices-end, indices-more}
 use Rattle.readers.proofs.FormKinds.{form-list}
-use Rattle.rewriting.proofs.ListPass.Holdings.{onward-start, onward-more, onward-end}
+use Rattle.rewriting.proofs.ListPass.Holdings.{onward-more, onward-end}
 use Rattle.rewriting.proofs.indices.entry_gather.Goals as goal
 
 pub returns-in_default : goal.returns-in_default

@@ -1,5 +1,4 @@
 -- `specs_declare`: what all specifications declare is what those from here on do. Assumes nothing.
-use mathlib.Core.Path.{refl}
 use Rattle.rewriting.proofs.ListPass.Declaring.{specs-last, specs-bad, specs-less, specs-yes, specs-form, specs-name}
 use Rattle.rewriting.proofs.indices.specs_declare.Goals as goal
 use Rattle.rewriting.proofs.indices.specs_declare.Goals.{else-a-name-via-then-a-name+else-a-eq-DW_FORM_sec_offset, else-a-name-via-else-a-name}

@@ -1,6 +1,5 @@
 -- `fill_ends`: what the column will hold from here on makes it hold all. Assumes nothing.
-use native.Mathlib.Omega.{arith}
-use Rattle.rewriting.proofs.KeptPass.EndsFilled.{ending-start, ending-end, ending-bad, ending-terminator-less, ending-terminator, ending-full, ending-entry-less, ending-entry}
+use Rattle.rewriting.proofs.KeptPass.EndsFilled.{ending-end, ending-bad, ending-terminator-less, ending-terminator, ending-full, ending-entry-less, ending-entry}
 use Rattle.rewriting.proofs.kept_items.fill_ends.Goals as goal
 
 pub returns-then-k-ends : goal.returns-then-k-ends

@@ -3,7 +3,7 @@ use mathlib.Core.Path.{sym, ◌∙◌}
 use native.Mathlib.Omega.{arith}
 use Rattle.readers.proofs.Declarations.{found_at}
 use Rattle.readers.proofs.Values.{step_end}
-use Rattle.rewriting.proofs.KeptPass.KeptSteps.{stand, walking_start, end-end, stop-none, at-terminator, stop-unknown, stop-past, stop-low, stop-high, ends-less, ends_on, ends-item, terminator-less, terminator-item, terminator-on}
+use Rattle.rewriting.proofs.KeptPass.KeptSteps.{stand, end-end, stop-none, at-terminator, stop-unknown, stop-past, stop-low, stop-high, ends-less, ends_on, ends-item, terminator-less, terminator-item, terminator-on}
 use Rattle.rewriting.proofs.KeptPass.EndsFilled.{end-there}
 use Rattle.rewriting.proofs.kept_items.next_kept.Goals as goal
 use Rattle.rewriting.proofs.kept_items.next_kept.Goals.{then-end-values-via-then-end-values, then-end-values-via-else-end-values+then-end-unit}

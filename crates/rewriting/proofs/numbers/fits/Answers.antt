@@ -1,6 +1,6 @@
 -- `fits` meets its contract: each turn takes a digit away.
 use native.Mathlib.Omega.{arith}
-use Rattle.rewriting.proofs.WritePass.Putting.{shortened-start, shortened-more, shortened-done}
+use Rattle.rewriting.proofs.WritePass.Putting.{shortened-more}
 use Rattle.rewriting.proofs.numbers.fits.Goals as goal
 
 pub loop-i-preserved : goal.loop-i-preserved

@@ -2,7 +2,7 @@
 use mathlib.Core.Path.{sym, ◌∙◌}
 use native.Mathlib.Omega.{arith}
 use Rattle.rewriting.proofs.WritePass.Putting.{refused, accepted, fit-some}
-use Rattle.rewriting.proofs.WritePass.Putting.{grouping-start, grouping-more, grouping-low, grouping-room, grouping-done}
+use Rattle.rewriting.proofs.WritePass.Putting.{grouping-start, grouping-more, grouping-done}
 use Rattle.rewriting.proofs.numbers.put_groups.Goals as goal
 
 pub returns-then-not-groups_fit : goal.returns-then-not-groups_fit

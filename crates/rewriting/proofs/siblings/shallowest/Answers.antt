@@ -1,6 +1,6 @@
 -- `shallowest` meets its contract.
 use native.Mathlib.Omega.{arith}
-use Rattle.rewriting.proofs.MapPass.Bounded.{least_start, least_more, least-done}
+use Rattle.rewriting.proofs.MapPass.Bounded.{least_more}
 use Rattle.rewriting.proofs.MapPass.Places.{depth-there}
 use Rattle.rewriting.proofs.siblings.shallowest.Goals as goal
 

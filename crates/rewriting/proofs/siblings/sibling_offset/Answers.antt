@@ -2,7 +2,7 @@
 use mathlib.Core.Path.{refl, sym, ◌∙◌}
 use native.Mathlib.Omega.{arith}
 use Rattle.rewriting.proofs.MapPass.Places.{old-there, new-there, depth-there, found-new, other_none, beyond-none, sibling-to}
-use Rattle.rewriting.proofs.MapPass.Bounded.{Unfound, seeking-start, seeking-skip, seeking-here, seeking-more, seeking-done}
+use Rattle.rewriting.proofs.MapPass.Bounded.{seeking-start, seeking-skip, seeking-here, seeking-more, seeking-done}
 use borrow.Author.Tests.{eqb-true, eqb-false}
 use Rattle.rewriting.proofs.siblings.sibling_offset.Goals as goal
 use Rattle.rewriting.proofs.siblings.sibling_offset.Goals.{else-start-places-via-then-start-places+else-has_old, else-start-places-via-else-start-places}
