@@ -137,11 +137,7 @@ least_more map places from i least d r p l is-depth a b =
 pub least-done : (map : List ℕ) (places from i to least : ℕ) → Least map places from i least → min to places ≤ i → (ps : List Place) → MapHeld ps map → places ≡ length ps → AsDeep ps least from to
 least-done map places from i to least p l ps h e = record { deep = λ j a b w. (p.deep ps h e).deep j a (omega arith) w }
 
--- ---- a block
-
--- ---- the table, from a block on
-
--- ---- the loop that fills it
+-- ---- the loop that fills the table
 
 pub record Filling (map : List ℕ) (places : ℕ) (bounds₀ bounds : List ℕ) (k : ℕ) : Type 0 where
   pub size : length bounds ≡ length bounds₀
