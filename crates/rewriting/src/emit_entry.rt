@@ -124,6 +124,7 @@ fn emit_expression(
     let mut from = Cursor { at: 0 };
     let mut copied: usize = 0;
     let mut to: usize = 0;
+    // No for: the place goes on by what is read there.
     loop {
         let Yield::Reference(r) = from.next_reference(s, e) else {
             let n = emit_bytes(&s[copied..], &mut out[to..]);
@@ -230,10 +231,7 @@ fn emit_attribute(
         } else {
             hinted_offset(map, places, bounds, old)
         };
-        return after(
-            to,
-            emit_offset(new, width(field), leb, e.big_endian, part),
-        );
+        return after(to, emit_offset(new, width(field), leb, e.big_endian, part));
     }
     let list = list_of(form);
     if list > 2 {
@@ -340,6 +338,7 @@ pub(crate) fn emit_entry(
     let mut p = specs;
     let mut from = values;
     let mut to = emit_bytes(bytes_between(unit, start.0 as usize, from.at), out);
+    // No for: the place goes on by what is read there.
     loop {
         match next_plan(unit, abbreviations, p, from, e) {
             Plan::Copy(past, next) => {

@@ -59,6 +59,7 @@ pub(crate) fn emit_dies(
         nesting: Nesting::outside(),
     };
     let mut to: usize = 0;
+    // No for: the place goes on by what is read there.
     loop {
         let KeptStep::Item(x) = next_kept(unit, abbreviations, r, index, parents, ends, marks, s)
         else {

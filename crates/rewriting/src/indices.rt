@@ -37,6 +37,7 @@ fn entry_declares(
 {
     let mut p = specs;
     let mut from = values;
+    // No for: the place goes on by what is read there.
     loop {
         let NextAttribute::More(a) = next_attribute(unit, abbreviations, p, from, e) else {
             return false;
@@ -66,6 +67,7 @@ fn any_declares(
     let mut at = Cursor {
         at: first.0 as usize,
     };
+    // No for: the place goes on by what is read there.
     loop {
         match at.step(unit, abbreviations, r.from, index, r.encoding) {
             Step::Entry(x) => {
@@ -168,6 +170,7 @@ fn entry_gather(
     let mut p = specs;
     let mut from = values;
     let mut g = counts;
+    // No for: the place goes on by what is read there.
     loop {
         let NextAttribute::More(a) = next_attribute(unit, abbreviations, p, from, e) else {
             return g;
@@ -220,6 +223,7 @@ fn gather(
         locations: 0,
         strings: 0,
     };
+    // No for: the place goes on by what is read there.
     loop {
         let KeptStep::Item(x) = next_kept(unit, abbreviations, r, index, parents, ends, marks, s)
         else {
@@ -289,6 +293,7 @@ fn specs_declare(abbreviations: &[u8], specs: Cursor, name: u64) -> bool
     ensures { result ≡ specs_declare name (specs_from abbreviations.now specs.at) }
 {
     let mut p = specs;
+    // No for: the place goes on by what is read there.
     loop {
         match p.attribute_spec(abbreviations) {
             SpecStep::Attribute(a) => {
@@ -313,6 +318,7 @@ fn table_declares(abbreviations: &[u8], from: u64, name: u64) -> bool
         ((ds : List Placed) → abbreviations_of s from ≡ some ds → result ≡ table_declares s name ds) }
 {
     let mut at = Cursor { at: from as usize };
+    // No for: the place goes on by what is read there.
     loop {
         match at.declaration(abbreviations) {
             DeclarationStep::Declaration(d, next) => {

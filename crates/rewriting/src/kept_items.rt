@@ -99,6 +99,7 @@ pub(crate) fn fill_ends(
         at: first.0 as usize,
     };
     let mut count = EntryIndex(0);
+    // No for: the place goes on by what is read there.
     loop {
         match at.step(unit, abbreviations, r.from, index, r.encoding) {
             Step::Entry(x) => {
@@ -144,6 +145,7 @@ pub(crate) fn next_kept(
     let mut at = s.at;
     let mut count = s.count;
     let mut nesting = s.nesting;
+    // No for: the place goes on by what is read there.
     loop {
         if at.at >= unit.len() {
             return KeptStep::End;

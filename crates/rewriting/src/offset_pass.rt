@@ -42,6 +42,7 @@ pub(crate) fn place_items(
     };
     let mut places: usize = 0;
     let mut new = UnitOffset(first.0);
+    // No for: the place goes on by what is read there.
     loop {
         let KeptStep::Item(x) = next_kept(unit, abbreviations, r, index, parents, ends, marks, s)
         else {

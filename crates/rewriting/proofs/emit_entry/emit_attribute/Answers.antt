@@ -25,7 +25,7 @@ pub returns-then-form-le-DW_FORM_ref_udata : goal.returns-then-form-le-DW_FORM_r
 returns-then-form-le-DW_FORM_ref_udata c = record {
   within = within-after _ _ _ (copied-within _ _ _ _ c.emit_bytes-to.ensures.count c.emit_bytes-to.ensures.part) _ _ c.emit_offset.ensures.within _ c.after-then-form-le-DW_FORM_ref_udata.ensures;
   bytes = λ lists ps rs rest m n w lent i a d. elim c.if-a-eq-DW_AT_sibling.branch [
-    then-a-eq-DW_AT_sibling s ↦ emits-after c.after-then-form-le-DW_FORM_ref_udata.ensures (attribute-sibling _ _ _ _ _ _ (are-bytes c.args.unit.now c.type_inv.unit) i a rs rest d _ _ _ _ (λ _ _. copied-front _ _ _ _ c.emit_bytes-to.ensures.count c.emit_bytes-to.ensures.part _ c.bytes_between.ensures) lists ps _ _ c.is_leb-leb.ensures _ c.width.ensures _ _ c.if-form-ge-DW_FORM_ref1.true c.if-form-le-DW_FORM_ref_udata.true s.if-a-eq-DW_AT_sibling.true _ (s.new-is ∙ s.sibling_offset-new.ensures ps m n w) (λ o v x y. emits-on _ _ _ (copied-within _ _ _ _ c.emit_bytes-to.ensures.count c.emit_bytes-to.ensures.part) (c.emit_offset.ensures.bytes o v x y)))
+    | then-a-eq-DW_AT_sibling s ↦ emits-after c.after-then-form-le-DW_FORM_ref_udata.ensures (attribute-sibling _ _ _ _ _ _ (are-bytes c.args.unit.now c.type_inv.unit) i a rs rest d _ _ _ _ (λ _ _. copied-front _ _ _ _ c.emit_bytes-to.ensures.count c.emit_bytes-to.ensures.part _ c.bytes_between.ensures) lists ps _ _ c.is_leb-leb.ensures _ c.width.ensures _ _ c.if-form-ge-DW_FORM_ref1.true c.if-form-le-DW_FORM_ref_udata.true s.if-a-eq-DW_AT_sibling.true _ (s.new-is ∙ s.sibling_offset-new.ensures ps m n w) (λ o v x y. emits-on _ _ _ (copied-within _ _ _ _ c.emit_bytes-to.ensures.count c.emit_bytes-to.ensures.part) (c.emit_offset.ensures.bytes o v x y)))
     | else-a-eq-DW_AT_sibling s ↦ emits-after c.after-then-form-le-DW_FORM_ref_udata.ensures (attribute-reference _ _ _ _ _ _ (are-bytes c.args.unit.now c.type_inv.unit) i a rs rest d _ _ _ _ (λ _ _. copied-front _ _ _ _ c.emit_bytes-to.ensures.count c.emit_bytes-to.ensures.part _ c.bytes_between.ensures) lists ps _ _ c.is_leb-leb.ensures _ c.width.ensures _ _ c.if-form-ge-DW_FORM_ref1.true c.if-form-le-DW_FORM_ref_udata.true s.if-a-eq-DW_AT_sibling.false _ (s.new-is ∙ s.hinted_offset-new.ensures ps m n) (λ o v x y. emits-on _ _ _ (copied-within _ _ _ _ c.emit_bytes-to.ensures.count c.emit_bytes-to.ensures.part) (c.emit_offset.ensures.bytes o v x y)))
   ];
 }
@@ -43,7 +43,7 @@ pub returns : goal.returns
 returns c = record {
   within = within-after _ _ _ (copied-within _ _ _ _ c.emit_bytes-to.ensures.count c.emit_bytes-to.ensures.part) _ _ c.emit_number.ensures.within _ c.after-2.ensures;
   bytes = λ lists ps rs rest m n w lent i a d. elim c.if-list-eq0.branch [
-    then-list-eq0 s ↦ emits-after c.after-2.ensures (attribute-ranges _ _ _ _ _ _ (are-bytes c.args.unit.now c.type_inv.unit) i a rs rest d _ _ _ _ (λ _ _. copied-front _ _ _ _ c.emit_bytes-to.ensures.count c.emit_bytes-to.ensures.part _ c.bytes_between.ensures) lists ps _ _ c.is_leb-leb.ensures _ c.width-2.ensures _ _ _ _ _ (λ o l. s.index-is ∙ s.new_index-index.ensures o l) _ c.list_of-list.ensures (λ y. emits-on _ _ _ (copied-within _ _ _ _ c.emit_bytes-to.ensures.count c.emit_bytes-to.ensures.part) (c.emit_number.ensures.bytes y)) s.if-list-eq0.true lent.those_ranges)
+    | then-list-eq0 s ↦ emits-after c.after-2.ensures (attribute-ranges _ _ _ _ _ _ (are-bytes c.args.unit.now c.type_inv.unit) i a rs rest d _ _ _ _ (λ _ _. copied-front _ _ _ _ c.emit_bytes-to.ensures.count c.emit_bytes-to.ensures.part _ c.bytes_between.ensures) lists ps _ _ c.is_leb-leb.ensures _ c.width-2.ensures _ _ _ _ _ (λ o l. s.index-is ∙ s.new_index-index.ensures o l) _ c.list_of-list.ensures (λ y. emits-on _ _ _ (copied-within _ _ _ _ c.emit_bytes-to.ensures.count c.emit_bytes-to.ensures.part) (c.emit_number.ensures.bytes y)) s.if-list-eq0.true lent.those_ranges)
     | else-list-eq0+then-list-eq1 s ↦ emits-after c.after-2.ensures (attribute-locations _ _ _ _ _ _ (are-bytes c.args.unit.now c.type_inv.unit) i a rs rest d _ _ _ _ (λ _ _. copied-front _ _ _ _ c.emit_bytes-to.ensures.count c.emit_bytes-to.ensures.part _ c.bytes_between.ensures) lists ps _ _ c.is_leb-leb.ensures _ c.width-2.ensures _ _ _ _ _ (λ o l. s.index-is ∙ s.new_index.ensures o l) _ c.list_of-list.ensures (λ y. emits-on _ _ _ (copied-within _ _ _ _ c.emit_bytes-to.ensures.count c.emit_bytes-to.ensures.part) (c.emit_number.ensures.bytes y)) s.if-list-eq1.true lent.those_locations)
     | else-list-eq0+else-list-eq1 s ↦ emits-after c.after-2.ensures (attribute-strings _ _ _ _ _ _ (are-bytes c.args.unit.now c.type_inv.unit) i a rs rest d _ _ _ _ (λ _ _. copied-front _ _ _ _ c.emit_bytes-to.ensures.count c.emit_bytes-to.ensures.part _ c.bytes_between.ensures) lists ps _ _ c.is_leb-leb.ensures _ c.width-2.ensures _ _ _ _ _ (λ o l. s.index-is ∙ s.new_index-else-list-eq1.ensures o l) _ c.list_of-list.ensures (λ y. emits-on _ _ _ (copied-within _ _ _ _ c.emit_bytes-to.ensures.count c.emit_bytes-to.ensures.part) (c.emit_number.ensures.bytes y)) (omega arith) lent.those_strings)
   ];

@@ -12,7 +12,7 @@ pub returns-then-form-eq-DW_FORM_rnglistx : goal.returns-then-form-eq-DW_FORM_rn
 returns-then-form-eq-DW_FORM_rnglistx c =
     let f = c.args.form in
     elim c.if-form-eq-DW_FORM_loclistx.branch [
-      then-form-eq-DW_FORM_loclistx w ↦ cc (⊎_elim (leb-reference f) (λ h. ⊎_elim (λ k. leb-string f k.1) (λ k. leb-location f k.2) h) w.if-form-eq-DW_FORM_loclistx.either)
+      | then-form-eq-DW_FORM_loclistx w ↦ cc (⊎_elim (leb-reference f) (λ h. ⊎_elim (λ k. leb-string f k.1) (λ k. leb-location f k.2) h) w.if-form-eq-DW_FORM_loclistx.either)
       | else-form-eq-DW_FORM_loclistx w ↦ (let q : eqb f 0x23 ≡ true = cc in cc (leb-range f (eqb-true f 0x23 q)))
     ]
 

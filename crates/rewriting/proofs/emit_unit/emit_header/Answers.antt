@@ -8,12 +8,12 @@ use Rattle.rewriting.proofs.emit_unit.emit_header.Goals.{then-at-length-via-then
 pub returns-then-at-length : goal.returns-then-at-length
 returns-then-at-length c =
     elim c.then-at-length.branch [
-      then-at-length-via-then-at-length w ↦
-      (let p = header-low _ _ _ _ _ _ c.length_bytes-length.ensures w.if-at-length.true in record { count = p.0; part = p.1 })
+      | then-at-length-via-then-at-length w ↦
+          (let p = header-low _ _ _ _ _ _ c.length_bytes-length.ensures w.if-at-length.true in record { count = p.0; part = p.1 })
       | then-at-length-via-else-at-length+then-at-unit w ↦ (let p = header-past _ _ _ _ _ w.if-at-unit.true in record { count = p.0; part = p.1 })
       | then-at-length-via-else-at-length+else-at-unit+then-at-out w ↦ (let p = header-short _ _ _ _ _ w.if-at-out.true in record { count = p.0; part = p.1 })
       | then-at-length-via-else-at-length+else-at-unit+else-at-out+then-bytes-length w ↦
-      (let p = header-few _ _ _ _ _ _ c.length_bytes-length.ensures w.if-bytes-length.true in record { count = p.0; part = p.1 })
+          (let p = header-few _ _ _ _ _ _ c.length_bytes-length.ensures w.if-bytes-length.true in record { count = p.0; part = p.1 })
     ]
 
 pub returns-then-not-bytes_fit : goal.returns-then-not-bytes_fit

@@ -14,6 +14,6 @@ loop-a-smaller c = search attributes-less
 
 pub loop-a-preserved : goal.loop-a-preserved
 loop-a-preserved c = elim c.else-a-name.branch [
-  else-a-name-via-then-a-name+else-a-eq-DW_FORM_sec_offset w ↦ search declares-form
+  | else-a-name-via-then-a-name+else-a-eq-DW_FORM_sec_offset w ↦ search declares-form
   | else-a-name-via-else-a-name w ↦ search declares-name
 ]

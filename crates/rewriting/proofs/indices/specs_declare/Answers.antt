@@ -11,7 +11,7 @@ loop-a-smaller c = search specs-less
 
 pub loop-a-preserved : goal.loop-a-preserved
 loop-a-preserved c = elim c.else-a-name.branch [
-  else-a-name-via-then-a-name+else-a-eq-DW_FORM_sec_offset w ↦ search specs-form
+  | else-a-name-via-then-a-name+else-a-eq-DW_FORM_sec_offset w ↦ search specs-form
   | else-a-name-via-else-a-name w ↦ search specs-name
 ]
 

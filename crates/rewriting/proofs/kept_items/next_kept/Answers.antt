@@ -28,7 +28,7 @@ returns-then-k-ends c = stop-past _ _ _ _ _ _ _ c.args.s (stand c.loop-at.at.at 
 
 pub returns-then-end-values : goal.returns-then-end-values
 returns-then-end-values c = elim c.then-end-values.branch [
-  then-end-values-via-then-end-values w ↦ stop-low _ _ _ _ _ _ _ c.args.s (stand c.loop-at.at.at c.loop-at.count.0 c.loop-at.nesting) c.loop-at.invariant c.if-at-unit.false _ c.uleb.ensures _ _ c.in-Value.is c.if-code-eq0.false _ (end-there c.args.ends.now _ _ c.place-k.ensures) w.if-end-values.true
+  | then-end-values-via-then-end-values w ↦ stop-low _ _ _ _ _ _ _ c.args.s (stand c.loop-at.at.at c.loop-at.count.0 c.loop-at.nesting) c.loop-at.invariant c.if-at-unit.false _ c.uleb.ensures _ _ c.in-Value.is c.if-code-eq0.false _ (end-there c.args.ends.now _ _ c.place-k.ensures) w.if-end-values.true
   | then-end-values-via-else-end-values+then-end-unit w ↦ stop-high _ _ _ _ _ _ _ c.args.s (stand c.loop-at.at.at c.loop-at.count.0 c.loop-at.nesting) c.loop-at.invariant c.if-at-unit.false _ c.uleb.ensures _ _ c.in-Value.is c.if-code-eq0.false _ (end-there c.args.ends.now _ _ c.place-k.ensures) w.if-end-unit.true
 ]
 

@@ -10,6 +10,6 @@ returns-then-has_old c = found-there _ _ _ _ _ c.if-i-places.true (eqb-true _ _ 
 
 pub returns : goal.returns
 returns c = elim c.else-i-places.branch [
-  else-i-places-via-then-i-places+else-has_old w ↦ found-other _ _ _ _ w.if-i-places.true (eqb-false _ _ (sym w.has_old.ensures ∙ w.if-has_old.false))
+  | else-i-places-via-then-i-places+else-has_old w ↦ found-other _ _ _ _ w.if-i-places.true (eqb-false _ _ (sym w.has_old.ensures ∙ w.if-has_old.false))
   | else-i-places-via-else-i-places w ↦ found-beyond _ _ _ _ w.if-i-places.false
 ]

@@ -13,7 +13,7 @@ returns-then-has_old c = λ ps h e b. sibling-to _ _ _ _ (found-new ps _ _ _ _ _
 pub loop-i-init : goal.loop-i-init
 loop-i-init c = seeking-start _ _ _ _ _ _ (λ ps h e. (
   elim c.else-start-places.branch [
-    else-start-places-via-then-start-places+else-has_old w ↦ other_none ps _ _ _ _ _ h e w.if-start-places.true (old-there _ _ _ refl) (c.hinted_place-start.ensures ps h e) (eqb-false _ _ (sym w.has_old.ensures ∙ w.if-has_old.false))
+    | else-start-places-via-then-start-places+else-has_old w ↦ other_none ps _ _ _ _ _ h e w.if-start-places.true (old-there _ _ _ refl) (c.hinted_place-start.ensures ps h e) (eqb-false _ _ (sym w.has_old.ensures ∙ w.if-has_old.false))
     | else-start-places-via-else-start-places w ↦ beyond-none ps _ _ _ _ 0 h e w.if-start-places.false (c.hinted_place-start.ensures ps h e)
   ],
   c.hinted_place-start.ensures ps h e,
