@@ -1,12 +1,13 @@
 -- What collect leaves in the lent slices, and its answer in numbers (document 01, "collect"; demand 1: "Output, map and
 -- index lists hold the answer, and zeros everywhere else, for every input").
-use Rattle.std.specs.Prelude.{ℕ, ◌/◌, List, length, None, Option, Some, Err, Ok, Result}
+use Rattle.std.specs.Prelude.{ℕ, ◌/◌, List, length, None, Option, Some, Err, Ok}
 use Rattle.readers.specs.Choice.{zeros}
 use Rattle.marking.specs.Analysis.{Rooms}
 use Rattle.marking.specs.Columns.{pad_to, unit_rooms}
 use Rattle.rewriting.specs.Written.{number_size, place_size, list_bytes, map_bytes}
 use Rattle.rewriting.specs.Rewriting.{Lists, Room, Collected, untouched, rewritten, refused}
 use Rattle.rewriting.specs.declared.collect.Counts.{Counts}
+use Rattle.rewriting.specs.declared.collect.Collected.{Collected as Answer}
 use Rattle.rewriting.specs.declared.collect.Collected.{Collected as Accepted}
 use Rattle.rewriting.specs.declared.collect.Collected.TheVariants.{Untouched, Rewritten}
 
@@ -48,8 +49,8 @@ abbrev pub Answer : Type 0
 Answer = Result Accepted ℕ
 
 unfoldable pub answer_for : Collected → Answer
-answer_for (untouched n l) = Ok (Ok (Untouched (counts_of n n 0 0 l)))
-answer_for (rewritten w) = Ok (Ok (Rewritten (counts_of w.entries w.kept (length w.map) (length w.output) w.lists)))
+answer_for (untouched n l) = Ok (Untouched (counts_of n n 0 0 l))
+answer_for (rewritten w) = Ok (Rewritten (counts_of w.entries w.kept (length w.map) (length w.output) w.lists))
 answer_for (refused n) = Err n
 
 unfoldable pub map_for : ℕ → Collected → List ℕ

@@ -12,11 +12,9 @@ ghost use Rattle.rewriting.specs.Outputs.{room_by, room_of, answer_for, map_for,
 ghost use Rattle.rewriting.specs.Inner.Leaving.{Answers, Tabled, Blank, marked_of, ListsAnswer, Writable, WriteAnswer};
 ghost use Rattle.rewriting.specs.Inner.Leaving.{left_by, task_of, MarkedTables};
 
-
 use crate::emit_unit::{emit_dies, emit_header};
 use crate::indices::{is_short, settle, sorted_lists};
 use crate::kept_items::{Reading, fill_ends};
-
 use crate::map::PLACE_SIZE;
 use crate::offset_pass::place_items;
 use crate::work_column::fill_work;
@@ -84,12 +82,8 @@ fn clear_refused(
         × (strings.new ≡ left_by answer strings.old)
         × (out.new ≡ left_by answer out.old) }
 {
-    match answer {
-        Ok(Collected::Untouched(_)) => {}
-        Ok(Collected::Rewritten(_)) => {}
-        Err(_) => {
-            clear_outputs(map, ranges, locations, strings, out);
-        }
+    if answer.is_err() {
+        clear_outputs(map, ranges, locations, strings, out);
     }
 }
 
@@ -283,7 +277,7 @@ fn write_unit(
         work,
     );
     let at = emit_header(unit, first, size.bytes, r.encoding, out);
-    match emit_dies(
+    emit_dies(
         unit,
         abbreviations,
         r,
@@ -302,20 +296,16 @@ fn write_unit(
         string_list,
         strings,
         &mut out[at..],
-    ) {
-        Ok(_) => {
-            Ok(Collected::Rewritten(Counts {
-                entries,
-                kept,
-                places: size.places,
-                bytes: size.bytes,
-                ranges,
-                locations,
-                strings,
-            }))
-        }
-        Err(n) => Err(n),
-    }
+    )?;
+    Ok(Collected::Rewritten(Counts {
+        entries,
+        kept,
+        places: size.places,
+        bytes: size.bytes,
+        ranges,
+        locations,
+        strings,
+    }))
 }
 
 // The unit of marked tables: the ends of its entries, lists, then map and output where something is dead.
@@ -357,7 +347,11 @@ fn rewrite_unit(
     let unit = unit_part(section, h);
     let first = h.first;
     fill_ends(unit, abbreviations, r, index, first, ends);
-    match index_lists(
+    let Listed {
+        ranges,
+        locations,
+        strings,
+    } = index_lists(
         unit,
         abbreviations,
         r,
@@ -370,47 +364,40 @@ fn rewrite_unit(
         range_list,
         location_list,
         string_list,
-    ) {
-        None => Err(12),
-        Some(Listed {
+    )
+    .ok_or(12)?;
+    if kept == entries {
+        return Ok(Collected::Untouched(Counts {
+            entries,
+            kept,
+            places: 0,
+            bytes: 0,
             ranges,
             locations,
             strings,
-        }) => {
-            if kept == entries {
-                return Ok(Collected::Untouched(Counts {
-                    entries,
-                    kept,
-                    places: 0,
-                    bytes: 0,
-                    ranges,
-                    locations,
-                    strings,
-                }));
-            }
-            write_unit(
-                unit,
-                abbreviations,
-                r,
-                index,
-                parents,
-                ends,
-                marks,
-                first,
-                entries,
-                kept,
-                range_list,
-                ranges,
-                location_list,
-                locations,
-                string_list,
-                strings,
-                work,
-                map,
-                out,
-            )
-        }
+        }));
     }
+    write_unit(
+        unit,
+        abbreviations,
+        r,
+        index,
+        parents,
+        ends,
+        marks,
+        first,
+        entries,
+        kept,
+        range_list,
+        ranges,
+        location_list,
+        locations,
+        string_list,
+        strings,
+        work,
+        map,
+        out,
+    )
 }
 
 // Untouched, without entries.
@@ -442,24 +429,28 @@ pub enum Task {
 fn task_of(unit: UnitMarking) -> Task
     ensures { result ≡ task_of unit.header unit.marks }
 {
-    let header = unit.header;
-    let marks = unit.marks;
-    match marks {
-        Err(n) => Task::Done(Err(n)),
-        Ok(UnitMarks { entries, kept }) => {
-            if entries == 0 {
-                return Task::Done(nothing());
-            }
-            match header {
-                Ok(Some(header)) => Task::Rewrite {
-                    header,
-                    entries,
-                    kept,
-                },
-                Ok(None) => Task::Done(nothing()),
-                Err(n) => Task::Done(Err(n)),
-            }
+    let UnitMarks { entries, kept } = match unit.marks {
+        Ok(marks) => marks,
+        Err(n) => {
+            return Task::Done(Err(n));
         }
+    };
+    if entries == 0 {
+        return Task::Done(nothing());
+    }
+    let first = match unit.header {
+        Ok(first) => first,
+        Err(n) => {
+            return Task::Done(Err(n));
+        }
+    };
+    match first {
+        Some(header) => Task::Rewrite {
+            header,
+            entries,
+            kept,
+        },
+        None => Task::Done(nothing()),
     }
 }
 

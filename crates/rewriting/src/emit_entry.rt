@@ -42,16 +42,10 @@ use readers::offsets::UnitOffset;
 pub(crate) fn bytes_between<'a>(s: &'a [u8], from: usize, to: usize) -> &'a [u8]
     ensures { result.now ≡ between s.now from to }
 {
-    if from >= to {
+    if from >= to || from >= s.len() {
         return &s[0..0];
     }
-    if from >= s.len() {
-        return &s[0..0];
-    }
-    if to > s.len() {
-        return &s[from..];
-    }
-    &s[from..to]
+    &s[from..to.min(s.len())]
 }
 
 // Copies bytes to the start of a part: how many, 0 where there is no room for all.
@@ -71,14 +65,18 @@ fn after(done: usize, rest: Result<usize, u8>) -> Result<usize, u8>
     requires { (n : ℕ) → rest ≡ Ok n → done + n < 2 ^ 64 }
     ensures { result ≡ onward done rest }
 {
-    match rest {
-        Ok(n) => Ok(done + n),
-        Err(n) => Err(n),
-    }
+    let n = rest?;
+    Ok(done + n)
 }
 
 // A number in so many bytes: 9 where it does not fit.
-fn emit_number(value: u64, width: usize, leb: bool, big_endian: bool, out: &mut [u8]) -> Result<usize, u8>
+fn emit_number(
+    value: u64,
+    width: usize,
+    leb: bool,
+    big_endian: bool,
+    out: &mut [u8],
+) -> Result<usize, u8>
     ensures within { Within out.old result out.new }
     ensures bytes { Wide leb width
         → let e = encoded_by leb width in
@@ -91,16 +89,20 @@ fn emit_number(value: u64, width: usize, leb: bool, big_endian: bool, out: &mut 
 }
 
 // The new offset in the old one's place: 8 where it has none (gc.rs: `write_ref_value`).
-fn emit_offset(new: Option<UnitOffset>, width: usize, leb: bool, big_endian: bool, out: &mut [u8]) -> Result<usize, u8>
+fn emit_offset(
+    new: Option<UnitOffset>,
+    width: usize,
+    leb: bool,
+    big_endian: bool,
+    out: &mut [u8],
+) -> Result<usize, u8>
     ensures within { Within out.old result out.new }
     ensures bytes { (o : Option ℕ) (v : ℕ) → new ≡ as_mapped o → Wide leb width
         → let e = encoded_by leb width in
         Emits (offset_refusal e v o) (number_bytes big_endian e (or_self v o)) out.old result out.new }
 {
-    match new {
-        Some(value) => emit_number(value.0, width, leb, big_endian, out),
-        None => Err(8),
-    }
+    let value = new.ok_or(8)?;
+    emit_number(value.0, width, leb, big_endian, out)
 }
 
 // An expression with the new offsets of the entries that it names, nested ones too (gc.rs: `emit_expression`).
@@ -122,6 +124,7 @@ fn emit_expression(
     let mut from = Cursor { at: 0 };
     let mut copied: usize = 0;
     let mut to: usize = 0;
+    // No for: the place goes on by what is read there.
     loop {
         let Some(r) = from.next_reference(s, e) else {
             let n = emit_bytes(&s[copied..], &mut out[to..]);
@@ -132,20 +135,13 @@ fn emit_expression(
         let next = r.next;
         let n = emit_bytes(&s[copied..place], &mut out[to..]);
         to += n;
-        match emit_offset(
+        to += emit_offset(
             hinted_offset(map, places, work, target),
             r.width,
             r.leb,
             e.big_endian,
             &mut out[to..],
-        ) {
-            Ok(n) => {
-                to += n;
-            }
-            Err(n) => {
-                return Err(n);
-            }
-        }
+        )?;
         copied = place + r.width;
         from = next;
     }
@@ -155,19 +151,11 @@ fn emit_expression(
 fn is_leb(form: u64) -> bool
     ensures { result ≡ leb_form form }
 {
-    if form == DW_FORM_ref_udata {
-        return true;
-    }
-    if form == DW_FORM_strx {
-        return true;
-    }
-    if form == DW_FORM_loclistx {
-        return true;
-    }
-    if form == DW_FORM_rnglistx {
-        return true;
-    }
-    form == DW_FORM_GNU_str_index
+    form == DW_FORM_ref_udata
+        || form == DW_FORM_strx
+        || form == DW_FORM_loclistx
+        || form == DW_FORM_rnglistx
+        || form == DW_FORM_GNU_str_index
 }
 
 // An index by its rank; as it is where its list is absent.
@@ -183,7 +171,7 @@ fn new_index(list: &[u8], count: Option<usize>, value: u64, kind: usize, work: &
 fn width(f: Field) -> usize
     ensures { result ≡ f.end - f.start }
 {
-    if f.start <= f.end { f.end - f.start } else { 0 }
+    f.end.saturating_sub(f.start)
 }
 
 // An attribute's value: what stands before it (form numbers, a length) is copied (gc.rs: `emit_attribute`).
@@ -221,85 +209,39 @@ fn emit_attribute(
     let field = v.field;
     let form = v.form;
     let to = emit_bytes(bytes_between(unit, values.at, field.start), out);
+    let part = &mut out[to..];
     let leb = is_leb(form);
     if form == DW_FORM_exprloc {
         return after(
             to,
-            emit_expression(
-                field.expression(unit),
-                e,
-                map,
-                places,
-                &mut out[to..],
-                bounds,
-            ),
+            emit_expression(field.expression(unit), e, map, places, part, bounds),
         );
     }
-    if form >= DW_FORM_ref1 {
-        if form <= DW_FORM_ref_udata {
-            if a.name == DW_AT_sibling {
-                return after(
-                    to,
-                    emit_offset(
-                        sibling_offset(map, places, bounds, UnitOffset(field.value), depth),
-                        width(field),
-                        leb,
-                        e.big_endian,
-                        &mut out[to..],
-                    ),
-                );
-            }
-            return after(
-                to,
-                emit_offset(
-                    hinted_offset(map, places, bounds, UnitOffset(field.value)),
-                    width(field),
-                    leb,
-                    e.big_endian,
-                    &mut out[to..],
-                ),
-            );
-        }
+    if form >= DW_FORM_ref1 && form <= DW_FORM_ref_udata {
+        let old = UnitOffset(field.value);
+        let new = if a.name == DW_AT_sibling {
+            sibling_offset(map, places, bounds, old, depth)
+        } else {
+            hinted_offset(map, places, bounds, old)
+        };
+        return after(to, emit_offset(new, width(field), leb, e.big_endian, part));
     }
     let list = list_of(form);
-    if list == 0 {
-        return after(
-            to,
-            emit_number(
-                new_index(ranges, ranges_count, field.value, 0, bounds),
-                width(field),
-                leb,
-                e.big_endian,
-                &mut out[to..],
-            ),
-        );
+    if list > 2 {
+        let n = emit_bytes(bytes_between(unit, field.start, field.end), part);
+        return Ok(to + n);
     }
-    if list == 1 {
-        return after(
-            to,
-            emit_number(
-                new_index(locations, locations_count, field.value, 1, bounds),
-                width(field),
-                leb,
-                e.big_endian,
-                &mut out[to..],
-            ),
-        );
-    }
-    if list == 2 {
-        return after(
-            to,
-            emit_number(
-                new_index(strings, strings_count, field.value, 2, bounds),
-                width(field),
-                leb,
-                e.big_endian,
-                &mut out[to..],
-            ),
-        );
-    }
-    let n = emit_bytes(bytes_between(unit, field.start, field.end), &mut out[to..]);
-    Ok(to + n)
+    let index = if list == 0 {
+        new_index(ranges, ranges_count, field.value, 0, bounds)
+    } else if list == 1 {
+        new_index(locations, locations_count, field.value, 1, bounds)
+    } else {
+        new_index(strings, strings_count, field.value, 2, bounds)
+    };
+    after(
+        to,
+        emit_number(index, width(field), leb, e.big_endian, part),
+    )
 }
 
 // What is to be done with the next attribute: a value that is copied, by the cursors past it and past its specification;
@@ -315,24 +257,20 @@ pub enum Plan {
 fn copies(form: u64) -> bool
     ensures { result ≡ true → Copies form }
 {
-    if form < DW_FORM_ref1 {
-        return list_of(form) == 3;
-    }
-    if form <= DW_FORM_indirect {
-        return false;
-    }
-    if form != DW_FORM_exprloc {
-        return list_of(form) == 3;
-    }
-    false
+    (form < DW_FORM_ref1 || form > DW_FORM_indirect)
+        && form != DW_FORM_exprloc
+        && list_of(form) == 3
 }
 
 // The next attribute of an entry: of a value that is copied no more is read than where it ends.
 fn next_plan(unit: &[u8], abbreviations: &[u8], specs: Cursor, values: Cursor, e: Encoding) -> Plan
     ensures { Planned (next_attribute e abbreviations.now specs.at unit.now values.at) result }
 {
-    match specs.attribute_spec(abbreviations) {
-        Some(SpecStep::Attribute(a)) => {
+    let Some(step) = specs.attribute_spec(abbreviations) else {
+        return Plan::Over;
+    };
+    match step {
+        SpecStep::Attribute(a) => {
             let next = a.next;
             if copies(a.form) {
                 let Some(past) = values.past_attribute(unit, a.name, a.form, e) else {
@@ -355,8 +293,7 @@ fn next_plan(unit: &[u8], abbreviations: &[u8], specs: Cursor, values: Cursor, e
                 values: past,
             })
         }
-        Some(SpecStep::Last(_)) => Plan::Over,
-        None => Plan::Over,
+        SpecStep::Last(_) => Plan::Over,
     }
 }
 
@@ -396,6 +333,7 @@ pub(crate) fn emit_entry(
     let mut p = specs;
     let mut from = values;
     let mut to = emit_bytes(bytes_between(unit, start.0 as usize, from.at), out);
+    // No for: the place goes on by what is read there.
     loop {
         match next_plan(unit, abbreviations, p, from, e) {
             Plan::Copy(past, next) => {
@@ -407,7 +345,7 @@ pub(crate) fn emit_entry(
             Plan::Change(a) => {
                 let next = a.next;
                 let past = a.values;
-                match emit_attribute(
+                to += emit_attribute(
                     unit,
                     from,
                     a,
@@ -423,14 +361,7 @@ pub(crate) fn emit_entry(
                     strings,
                     strings_count,
                     &mut out[to..],
-                ) {
-                    Ok(n) => {
-                        to += n;
-                    }
-                    Err(n) => {
-                        return Err(n);
-                    }
-                }
+                )?;
                 from = past;
                 p = next;
             }

@@ -12,12 +12,10 @@ ghost use Rattle.rewriting.specs.Inner.Emission.{Emits, Within, ListsLent};
 
 use crate::emit_entry::{bytes_between, emit_bytes, emit_entry};
 use crate::kept_items::{KeptItem, PassPosition, Reading, next_kept};
-
 use crate::numbers::{bytes_fit, put_bytes, put_fixed};
-use readers::cursor::{Cursor, Encoding};
-use readers::entries::Nesting;
+use readers::cursor::Encoding;
 use readers::header::length_bytes;
-use readers::offsets::{EntryIndex, UnitOffset};
+use readers::offsets::UnitOffset;
 
 // Writes the kept items (gc.rs: `emit_dies`).
 pub(crate) fn emit_dies(
@@ -51,24 +49,18 @@ pub(crate) fn emit_dies(
         → let items = kept_from marks.now 0 [] (items_in x u) in
         Emits (refusal_from x u lists ps items) (bytes_from x u lists ps items) out.old result out.new }
 {
-    let mut s = PassPosition {
-        at: Cursor {
-            at: first.0 as usize,
-        },
-        count: EntryIndex(0),
-        nesting: Nesting::outside(),
-    };
+    let mut s = PassPosition::start(first);
     let mut to: usize = 0;
+    // No for: the place goes on by what is read there.
     loop {
-        let Some(x) = next_kept(unit, abbreviations, r, index, parents, ends, marks, s)
-        else {
+        let Some(x) = next_kept(unit, abbreviations, r, index, parents, ends, marks, s) else {
             return Ok(to);
         };
         let next = x.next;
         let start = x.start;
         let end = x.end;
         if x.is_entry {
-            match emit_entry(
+            to += emit_entry(
                 unit,
                 abbreviations,
                 start,
@@ -86,15 +78,8 @@ pub(crate) fn emit_dies(
                 strings,
                 strings_count,
                 &mut out[to..],
-            ) {
-                Ok(n) => {
-                    to += n;
-                    s = next;
-                }
-                Err(n) => {
-                    return Err(n);
-                }
-            }
+            )?;
+            s = next;
         } else {
             let n = emit_bytes(
                 bytes_between(unit, start.0 as usize, end.at),
@@ -121,16 +106,7 @@ pub fn emit_header(
     let at = first.0 as usize;
     let width = e.offset_size as usize;
     let length = length_bytes(e.offset_size);
-    if at < length {
-        return 0;
-    }
-    if at > unit.len() {
-        return 0;
-    }
-    if at > out.len() {
-        return 0;
-    }
-    if bytes < length {
+    if at < length || at > unit.len() || at > out.len() || bytes < length {
         return 0;
     }
     let size = (bytes - length) as u64;

@@ -13,14 +13,13 @@ ghost use Rattle.rewriting.specs.Inner.IndexLists.{Settles};
 
 use crate::gathering::{add, finish};
 use crate::kept_items::{KeptItem, PassPosition, Reading, next_kept};
-
 use readers::abbreviations::{DeclarationStep, SpecStep};
 use readers::attributes::list_of;
 use readers::codes::DW_FORM_sec_offset;
 use readers::cursor::{Cursor, Encoding};
-use readers::entries::{Nesting, Step};
+use readers::entries::Step;
 use readers::entry_attributes::{EntryAttribute, next_attribute};
-use readers::offsets::{EntryIndex, UnitOffset};
+use readers::offsets::UnitOffset;
 use readers::tables::clear_bytes;
 
 // Whether an entry declares an attribute of a name in sec_offset.
@@ -36,16 +35,15 @@ fn entry_declares(
 {
     let mut p = specs;
     let mut from = values;
+    // No for: the place goes on by what is read there.
     loop {
         let Some(a) = next_attribute(unit, abbreviations, p, from, e) else {
             return false;
         };
         p = a.next;
         from = a.values;
-        if a.name == name {
-            if a.declared == DW_FORM_sec_offset {
-                return true;
-            }
+        if a.name == name && a.declared == DW_FORM_sec_offset {
+            return true;
         }
     }
 }
@@ -67,9 +65,13 @@ fn any_declares(
     let mut at = Cursor {
         at: first.0 as usize,
     };
+    // No for: the place goes on by what is read there.
     loop {
-        match at.step(unit, abbreviations, r.from, index, r.encoding) {
-            Some(Step::Entry(x)) => {
+        let Some(step) = at.step(unit, abbreviations, r.from, index, r.encoding) else {
+            return false;
+        };
+        match step {
+            Step::Entry(x) => {
                 let declaration = x.declaration;
                 let next = x.next;
                 if entry_declares(
@@ -84,13 +86,10 @@ fn any_declares(
                 }
                 at = next;
             }
-            Some(Step::Terminator(next)) => {
+            Step::Terminator(next) => {
                 at = next;
             }
-            Some(Step::End) => {
-                return false;
-            }
-            None => {
+            Step::End => {
                 return false;
             }
         }
@@ -169,6 +168,7 @@ fn entry_gather(
     let mut p = specs;
     let mut from = values;
     let mut g = counts;
+    // No for: the place goes on by what is read there.
     loop {
         let Some(a) = next_attribute(unit, abbreviations, p, from, e) else {
             return g;
@@ -209,21 +209,15 @@ fn gather(
         × (made 1 location_list.old result.locations location_list.new
         × made 2 string_list.old result.strings string_list.new)) }
 {
-    let mut s = PassPosition {
-        at: Cursor {
-            at: first.0 as usize,
-        },
-        count: EntryIndex(0),
-        nesting: Nesting::outside(),
-    };
+    let mut s = PassPosition::start(first);
     let mut g = Lengths {
         ranges: 0,
         locations: 0,
         strings: 0,
     };
+    // No for: the place goes on by what is read there.
     loop {
-        let Some(x) = next_kept(unit, abbreviations, r, index, parents, ends, marks, s)
-        else {
+        let Some(x) = next_kept(unit, abbreviations, r, index, parents, ends, marks, s) else {
             return g;
         };
         let next = x.next;
@@ -290,20 +284,19 @@ fn specs_declare(abbreviations: &[u8], specs: Cursor, name: u64) -> bool
     ensures { result ≡ specs_declare name (specs_from abbreviations.now specs.at) }
 {
     let mut p = specs;
+    // No for: the place goes on by what is read there.
     loop {
-        match p.attribute_spec(abbreviations) {
-            Some(SpecStep::Attribute(a)) => {
+        let Some(step) = p.attribute_spec(abbreviations) else {
+            return false;
+        };
+        match step {
+            SpecStep::Attribute(a) => {
                 p = a.next;
-                if a.name == name {
-                    if a.form == DW_FORM_sec_offset {
-                        return true;
-                    }
+                if a.name == name && a.form == DW_FORM_sec_offset {
+                    return true;
                 }
             }
-            Some(SpecStep::Last(_)) => {
-                return false;
-            }
-            None => {
+            SpecStep::Last(_) => {
                 return false;
             }
         }
@@ -316,18 +309,19 @@ fn table_declares(abbreviations: &[u8], from: u64, name: u64) -> bool
         ((ds : List Placed) → abbreviations_of s from ≡ Some ds → result ≡ table_declares s name ds) }
 {
     let mut at = Cursor { at: from as usize };
+    // No for: the place goes on by what is read there.
     loop {
-        match at.declaration(abbreviations) {
-            Some(DeclarationStep::Declaration(d, next)) => {
+        let Some(step) = at.declaration(abbreviations) else {
+            return false;
+        };
+        match step {
+            DeclarationStep::Declaration(d, next) => {
                 if specs_declare(abbreviations, d.attributes, name) {
                     return true;
                 }
                 at = next;
             }
-            Some(DeclarationStep::Last(_)) => {
-                return false;
-            }
-            None => {
+            DeclarationStep::Last(_) => {
                 return false;
             }
         }
@@ -350,13 +344,9 @@ fn is_absent(
         ((x : Sections) (u : Unit') → ReadAs x u r s bytes → TablesFound u r s table
         → result ≡ is_absent x u name (items_by r s table bytes first.0)) }
 {
-    if name == 0 {
-        return false;
-    }
-    if table_declares(abbreviations, r.from, name) {
-        return any_declares(unit, abbreviations, r, index, first, name);
-    }
-    false
+    name != 0
+        && table_declares(abbreviations, r.from, name)
+        && any_declares(unit, abbreviations, r, index, first, name)
 }
 
 // A list that was gathered: absent, and zeros again, or its count.

@@ -1,6 +1,7 @@
 // The kept entries and terminators of a unit, one after the other: the walk that every pass shares.
-ghost use Rattle.std.specs.Prelude.{◌≡◌, ℕ, ◌^◌, ◌≤◌, ◌<◌, length, get_or};
+ghost use Rattle.std.specs.Prelude.{◌≡◌, ℕ, ◌^◌, ◌≤◌, ◌<◌, [], length, get_or};
 ghost use Rattle.marking.specs.Marks.{is_kept};
+ghost use Rattle.readers.specs.Nesting.{nesting_of};
 ghost use Rattle.readers.specs.Stream.{entry_count};
 ghost use Rattle.rewriting.specs.Inner.Ends.{end_number, EndsHeld};
 ghost use Rattle.rewriting.specs.Inner.NextKept.{closes_kept, items_by, Answers};
@@ -26,6 +27,21 @@ pub struct PassPosition {
     pub nesting: Nesting,
 }
 
+impl PassPosition {
+    // Where a pass begins: outside every entry.
+    pub(crate) fn start(first: UnitOffset) -> PassPosition
+        ensures { result ≡ record { at = record { at = first.0 }; count = record { 0 = 0 }; nesting = nesting_of [] } }
+    {
+        PassPosition {
+            at: Cursor {
+                at: first.0 as usize,
+            },
+            count: EntryIndex(0),
+            nesting: Nesting::outside(),
+        }
+    }
+}
+
 // A kept item: its offset, the cursor past it, its depth, for an entry where its specifications and its values start, and
 // where the pass goes on.
 #[derive(Clone, Copy)]
@@ -44,21 +60,14 @@ fn is_kept(marks: &[u8], i: EntryIndex) -> bool
     ensures { result ≡ is_kept marks.now i.0 }
 {
     let k = place(i);
-    if k < marks.len() {
-        return marks[k] >= 2;
-    }
-    false
+    k < marks.len() && marks[k] >= 2
 }
 
 // Whether a terminator closes the children of a kept entry.
 fn closes_kept(marks: &[u8], nesting: Nesting) -> bool
     ensures { result ≡ closes_kept marks.now nesting }
 {
-    if nesting.depth == 0 {
-        return false;
-    }
-    let parent = nesting.parent;
-    is_kept(marks, parent)
+    nesting.depth != 0 && is_kept(marks, nesting.parent)
 }
 
 // The number of an entry that ends at a place below 2^63: twice the place, and one more where it has children.
@@ -69,10 +78,7 @@ fn end_number(past: Cursor, children: bool) -> u64
     if end > 0x7fff_ffff_ffff_ffff {
         return 0;
     }
-    if children {
-        return 2 * end + 1;
-    }
-    2 * end
+    2 * end + u64::from(children)
 }
 
 // Puts a 0 after the numbers of a column, if it goes on.
@@ -103,9 +109,14 @@ pub(crate) fn fill_ends(
         at: first.0 as usize,
     };
     let mut count = EntryIndex(0);
+    // No for: the place goes on by what is read there.
     loop {
-        match at.step(unit, abbreviations, r.from, index, r.encoding) {
-            Some(Step::Entry(x)) => {
+        let Some(step) = at.step(unit, abbreviations, r.from, index, r.encoding) else {
+            end_column(ends, count);
+            return;
+        };
+        match step {
+            Step::Entry(x) => {
                 let k = place(count);
                 if k >= ends.len() {
                     return;
@@ -116,14 +127,10 @@ pub(crate) fn fill_ends(
                 count = EntryIndex(count.0 + 1);
                 at = next;
             }
-            Some(Step::Terminator(next)) => {
+            Step::Terminator(next) => {
                 at = next;
             }
-            Some(Step::End) => {
-                end_column(ends, count);
-                return;
-            }
-            None => {
+            Step::End => {
                 end_column(ends, count);
                 return;
             }
@@ -148,6 +155,7 @@ pub(crate) fn next_kept(
     let mut at = s.at;
     let mut count = s.count;
     let mut nesting = s.nesting;
+    // No for: the place goes on by what is read there.
     loop {
         if at.at >= unit.len() {
             return None;
@@ -177,10 +185,7 @@ pub(crate) fn next_kept(
             }
             let n = ends[k];
             let end = (n / 2) as usize;
-            if end < values.at {
-                return None;
-            }
-            if end > unit.len() {
+            if end < values.at || end > unit.len() {
                 return None;
             }
             let kept = is_kept(marks, count);
@@ -188,12 +193,7 @@ pub(crate) fn next_kept(
             count = EntryIndex(count.0 + 1);
             at = Cursor { at: end };
             if kept {
-                let d = find_declaration(
-                    abbreviations,
-                    r.from,
-                    index,
-                    code,
-                )?;
+                let d = find_declaration(abbreviations, r.from, index, code)?;
                 let specs = d.attributes;
                 return Some(KeptItem {
                     start,

@@ -1,6 +1,6 @@
 // The map: old offset, new offset and depth of each place, eight big-endian bytes each, in ascending order.
 ghost use Rattle.std.specs.Prelude.{◌≡◌, ◌/◌, List, length, eqb};
-ghost use Rattle.rewriting.specs.Written.{place_size, old_at, new_at, depth_at, halved, looked_up};
+ghost use Rattle.rewriting.specs.Written.{place_size, old_at, new_at, depth_at, halved, found_at, looked_up};
 ghost use Rattle.rewriting.specs.Indices.{rank_in};
 ghost use Rattle.rewriting.specs.Places.{Place, new_of, old_offsets};
 ghost use Rattle.rewriting.specs.Inner.Written.{WithPlace, MapHeld, as_mapped};
@@ -70,15 +70,22 @@ pub fn before(map: &[u8], places: usize, old: UnitOffset) -> usize
     first_row(map, PLACE_SIZE, NUMBER_SIZE, 0, places, old.0)
 }
 
+// The new offset at a place, where it has the old one.
+fn found_at(map: &[u8], places: usize, old: UnitOffset, i: usize) -> Option<UnitOffset>
+    ensures { result ≡ found_at map.now places old.0 i }
+{
+    if i < places && has_old(map, i, old) {
+        return Some(new_at(map, i));
+    }
+    None
+}
+
 // The new offset of an old one.
 pub fn new_offset(map: &[u8], places: usize, old: UnitOffset) -> Option<UnitOffset>
     ensures { result ≡ looked_up map.now places old.0 }
 {
     let i = before(map, places, old);
-    if i < places && has_old(map, i, old) {
-        return Some(new_at(map, i));
-    }
-    None
+    found_at(map, places, old, i)
 }
 
 // ---- by hints
@@ -92,12 +99,13 @@ pub(crate) fn hinted_place(map: &[u8], places: usize, work: &[u32], old: UnitOff
 }
 
 // The new offset of an old one, by hints.
-pub(crate) fn hinted_offset(map: &[u8], places: usize, work: &[u32], old: UnitOffset) -> Option<UnitOffset>
+pub(crate) fn hinted_offset(
+    map: &[u8],
+    places: usize,
+    work: &[u32],
+    old: UnitOffset,
+) -> Option<UnitOffset>
     ensures { (ps : List Place) → MapHeld ps map.now → places ≡ length ps → result ≡ as_mapped (new_of ps old.0) }
 {
-    let i = hinted_place(map, places, work, old);
-    if i < places && has_old(map, i, old) {
-        return Some(new_at(map, i));
-    }
-    None
+    found_at(map, places, old, hinted_place(map, places, work, old))
 }

@@ -60,6 +60,7 @@ fn put_little_endian(value: u64, width: usize, out: &mut [u8])
     requires { width ≤ length out.old }
     ensures { out.new ≡ fixed_bytes false width value ++ drop width out.old }
 {
+    // Not one loop with put_big_endian: an order as an argument is a test at each byte.
     let mut rest = value;
     for i in 0..width {
         out[i] = (rest % 256) as u8;

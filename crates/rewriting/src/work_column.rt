@@ -5,7 +5,6 @@ ghost use Rattle.rewriting.specs.Inner.Written.{MapHeld};
 ghost use Rattle.rewriting.specs.Inner.Bounds.{Bounds};
 
 use crate::hints::{LOCATION_HINTS, MAP_HINTS, RANGE_HINTS, STRING_HINTS, fill_hints};
-
 use crate::map::{NUMBER_SIZE, PLACE_SIZE};
 use crate::siblings::fill_bounds;
 

@@ -5,9 +5,10 @@ use native.Mathlib.Omega.{arith}
 use native.Mathlib.Numerals.{add-one}
 use mathlib.Core.Bool.{Bool, true, false}
 use mathlib.Core.List.{List, [], ◌∷◌}
-use lib.ListN.{length, get_or, set, length-set, get_or-eq_default}
+use lib.ListN.{length, get_or, set, length-set}
 use lib.Seq.{get_or-set_same, get_or-set_other}
 use Rattle.readers.specs.Abbreviations.{find_at}
+use mir.Val.{bool_byte}
 use Rattle.readers.specs.Choice.{pick}
 use Rattle.readers.specs.Entries.{step_at}
 use Rattle.readers.specs.Stream.{Item, entry, terminator}
@@ -23,28 +24,14 @@ use Rattle.rewriting.specs.Inner.NextKept.{items_by}
 use Rattle.rewriting.specs.declared.kept_items.Reading.{Reading}
 use Rattle.rewriting.proofs.KeptPass.KeptSteps.{items-entry, items-terminator, items-end, items-bad}
 
-pub number-yes : (end : ℕ) (children : Bool) → children ≡ true → end < 2 ^ 63 → 2 * end + 1 ≡ end_number end children
+pub number-is : (end n : ℕ) (children : Bool) → n ≡ bool_byte children → 2 * end + n ≡ end_number end children
 unfolding end_number pick
-number-yes end children q h = sym (ap (end_number end) q)
-
-pub number-no : (end : ℕ) (children : Bool) → children ≡ false → end < 2 ^ 63 → 2 * end ≡ end_number end children
-unfolding end_number pick
-number-no end children q h = sym (ap (end_number end) q)
+number-is end n true e = omega arith
+number-is end n false e = omega arith
 
 -- the number at an entry's place
 pub end-there : (ends : List ℕ) (k i : ℕ) → k ≡ i → get_or ends k 0 ≡ get_or ends i 0
 end-there ends k i e = ap (λ (n : ℕ). get_or ends n 0) e
-
-pub end-outside : (ends : List ℕ) (k i : ℕ) → k ≡ i → length ends ≤ k → 0 ≡ get_or ends i 0
-end-outside ends k i e h = sym (get_or-eq_default ends 0 h) ∙ end-there ends k i e
-
--- a column that has ended
-pub ended-out : (ends : List ℕ) (k count : ℕ) → k ≡ count → length ends ≤ k → get_or ends count 0 ≡ 0
-ended-out ends k count e h = sym (end-outside ends k count e h)
-
-pub ended-in : (ends : List ℕ) (k count : ℕ) → k ≡ count → k < length ends
-    → (get_or (set ends k 0) count 0 ≡ 0) × ((i : ℕ) → i < count → get_or (set ends k 0) i 0 ≡ get_or ends i 0)
-ended-in ends k count e h = (sym (end-there (set ends k 0) k count e) ∙ get_or-set_same ends k 0 0 h, λ i l. get_or-set_other ends k i 0 0 (λ z. omega arith))
 
 module _ (r : Reading) (abbreviations index unit : List ℕ) (first : ℕ) (ends₀ : List ℕ) where
   abbrev items : ℕ → List Item

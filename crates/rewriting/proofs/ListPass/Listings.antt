@@ -23,8 +23,8 @@ use Rattle.rewriting.specs.Inner.Emission.{Lent}
 use Rattle.rewriting.specs.Outputs.{list_count, list_or, ranges_in, locations_in, strings_in}
 use Rattle.rewriting.specs.Inner.Leaving.{list_room, ListsAnswer}
 use Rattle.rewriting.specs.declared.kept_items.Reading.{Reading}
-use Rattle.rewriting.specs.declared.collect.Listed.{Listed}
 use Rattle.rewriting.specs.Refusals.{listed}
+use Rattle.rewriting.specs.declared.collect.Listed.{Listed}
 use Rattle.rewriting.proofs.ListPass.Tables.{length_run}
 use Rattle.rewriting.proofs.ListPass.Held.{list-none}
 use Rattle.rewriting.proofs.ListPass.ListAnswers.{items-are, ranges-are, locations-are, strings-are, no-ranges, no-locations, no-strings, answer-short, answer-held, answer-absent}
@@ -126,7 +126,7 @@ module _ (t : Bool) (r : Reading) (s table unit parents ends marks : List ℕ) (
     pub settled-strings : Listing 2 r s table unit parents ends marks first list n mid → Settles r s table unit first 0 n mid c after → Answered strings_in list c after
     settled-strings g s x u p f z = subst (λ (o : Option (List ℕ)). ListAnswer o list c after) (strings-are x u t _ h) (settled 2 0 g s x u p f z)
 
-  abbrev Wanted : List ℕ → List ℕ → List ℕ → Option Listed → List ℕ → List ℕ → List ℕ → Type 0
+  abbrev Wanted : List ℕ → List ℕ → List ℕ → Listed → List ℕ → List ℕ → List ℕ → Type 0
   Wanted ranges locations strings c ranges' locations' strings' = (x : Sections) (u : Unit') → PassInput x u r s table unit parents ends marks first → first ≡ u.header.first.0
       → ranges ≡ zeros (length ranges) → locations ≡ zeros (length locations) → strings ≡ zeros (length strings)
       → ListsAnswer (lists_of x u t (kept_from marks 0 [] (items_in x u))) (length ranges) (length locations) (length strings) c ranges' locations' strings'

@@ -1,12 +1,11 @@
 -- The search for a sibling's place by a table of bounds, and how the table is filled. Assumes nothing.
 use Prim.Native.Nat.{ℕ, zero, suc, min, ◌+◌, ◌-◌, ◌*◌, ◌/◌, ◌≤◌, ◌<◌}
-use mathlib.Core.Path.{◌≡◌, refl, ap, sym, ◌∙◌, subst}
+use mathlib.Core.Path.{◌≡◌, ap, sym, ◌∙◌, subst}
 use mathlib.Core.List.{List}
 use mathlib.Core.Logic.{⊎_elim}
 use Rattle.std.specs.Prelude.{None, Some}
 use native.Mathlib.Omega.{arith}
-use lib.ListN.{length, get_or, set, drop, drop_of_length-le, length-set, get_or-eq_default}
-use lib.Seq.{get_or-set_same, get_or-set_other}
+use lib.ListN.{length, get_or, drop, drop_of_length-le}
 use lib.Dec.{ltb}
 use mir.Facts.{ltb_yes, ltb_no}
 use Rattle.readers.proofs.Choice.{either}
@@ -21,11 +20,6 @@ use Rattle.rewriting.proofs.ListPass.Ranks.{rank-above}
 use Rattle.rewriting.proofs.MapPass.Places.{nowhere, length-olds, old_of, depth-held, new-held, first-skip, first-here, first_on}
 
 -- ---- a block that is deeper than so
-
-pub block-deeper : (bounds : List ℕ) (i depth k n m : ℕ) → i ≤ 8 * k → 8 * k ≤ i → n ≡ get_or bounds (2 * k + 1) 0 → depth < n → m ≡ get_or bounds (2 * k) 0
-    → (ps : List Place) → Bounds ps bounds → AsDeep ps (depth + 1) i (8 * m)
-block-deeper bounds i depth k n m a b e d f ps h =
-    record { deep = λ j p q l. let z : get_or bounds (2 * k + 1) 0 ≤ (get_or ps j nowhere).depth = (h.block k (omega arith)).deep j (omega arith) (omega arith) l in omega arith }
 
 -- ---- from a place on
 
@@ -142,89 +136,9 @@ least_more map places from i least d r p l is-depth a b =
 pub least-done : (map : List ℕ) (places from i to least : ℕ) → Least map places from i least → min to places ≤ i → (ps : List Place) → MapHeld ps map → places ≡ length ps → AsDeep ps least from to
 least-done map places from i to least p l ps h e = record { deep = λ j a b w. (p.deep ps h e).deep j a (omega arith) w }
 
--- ---- a block
-
--- its own places, and two blocks after them
-pub block-joined : (ps : List Place) (bounds : List ℕ) (k next middle end own n m least r : ℕ) → BoundsFrom (k + 1) ps bounds → next ≡ k + 1 → AsDeep ps own (8 * k) (8 * next) → k < middle
-    → middle ≡ get_or bounds (2 * next) 0 → end ≡ get_or bounds (2 * middle) 0 → n ≡ get_or bounds (2 * next + 1) 0 → m ≡ get_or bounds (2 * middle + 1) 0
-    → least ≤ n → least ≤ m → r ≤ own → r ≤ least → AsDeep ps r (8 * k) (8 * end)
-block-joined ps bounds k next middle end own n m least r h s o g a b c d e₁ e₂ e₃ e₄ =
-    record {
-      deep = λ j from to l.
-          ⊎_elim
-          (λ t. let z : own ≤ (get_or ps j nowhere).depth = o.deep j from (ltb_yes {a = j} {b = 8 * next} t) l in omega arith)
-          (λ t. let t₁ : 8 * next ≤ j = ltb_no {a = j} {b = 8 * next} t in
-          ⊎_elim
-          (λ u. let u₁ : j < 8 * middle = ltb_yes {a = j} {b = 8 * middle} u in
-          let z : get_or bounds (2 * next + 1) 0 ≤ (get_or ps j nowhere).depth = (h.block next (omega arith)).deep j t₁ (omega arith) l in omega arith)
-          (λ u. let u₁ : 8 * middle ≤ j = ltb_no {a = j} {b = 8 * middle} u in
-          let z : get_or bounds (2 * middle + 1) 0 ≤ (get_or ps j nowhere).depth = (h.block middle (omega arith)).deep j u₁ (omega arith) l in omega arith)
-          (either (ltb j (8 * middle))))
-          (either (ltb j (8 * next)));
-    }
-
--- ---- the table, from a block on
-
-pub bounds-none : (ps : List Place) (bounds : List ℕ) (k places numbers : ℕ) → numbers ≡ length bounds → k ≤ numbers / 2 → (k < numbers / 2 → places < 8 * k) → places ≡ length ps → BoundsFrom k ps bounds
-bounds-none ps bounds k places numbers s a f e =
-    record {
-      block = λ g le.
-          ⊎_elim
-          (λ t. let z : places < 8 * k = f (ltb_yes {a = k} {b = numbers / 2} t) in record { deep = λ j p q l. absurd (omega arith) })
-          (λ t. let z : numbers / 2 ≤ k = ltb_no {a = k} {b = numbers / 2} t in
-          let y : get_or bounds (2 * g + 1) 0 ≡ 0 = get_or-eq_default bounds 0 {n = 2 * g + 1} (omega arith) in record { deep = λ j p q l. omega arith })
-          (either (ltb k (numbers / 2)));
-    }
-
-pub bounds-more : (ps : List Place) (bounds : List ℕ) (k end least : ℕ) → 2 * k + 1 < length bounds → BoundsFrom (k + 1) ps bounds → AsDeep ps least (8 * k) (8 * end)
-    → BoundsFrom k ps (set (set bounds (2 * k) end) (2 * k + 1) least)
-bounds-more ps bounds k end least w h d =
-    record {
-      block = λ g le.
-          ⊎_elim
-          (λ t.
-          let lt : k < g = ltb_yes {a = k} {b = g} t in
-          let after : List ℕ = set (set bounds (2 * k) end) (2 * k + 1) least in
-          let y : get_or after (2 * g) 0 ≡ get_or bounds (2 * g) 0 =
-          get_or-set_other (set bounds (2 * k) end) (2 * k + 1) (2 * g) least 0 (λ q. omega arith) ∙ get_or-set_other bounds (2 * k) (2 * g) end 0 (λ q. omega arith) in
-          let z : get_or after (2 * g + 1) 0 ≡ get_or bounds (2 * g + 1) 0 =
-          get_or-set_other (set bounds (2 * k) end) (2 * k + 1) (2 * g + 1) least 0 (λ q. omega arith) ∙ get_or-set_other bounds (2 * k) (2 * g + 1) end 0 (λ q. omega arith) in
-          record { deep = λ j p q l. let v : get_or bounds (2 * g + 1) 0 ≤ (get_or ps j nowhere).depth = (h.block g (omega arith)).deep j p (omega arith) l in omega arith })
-          (λ t.
-          let s : k ≡ g = (let q : g ≤ k = ltb_no {a = k} {b = g} t in omega arith) in
-          subst (λ n. AsDeep ps (get_or (set (set bounds (2 * k) end) (2 * k + 1) least) (2 * n + 1) 0) (8 * n) (8 * get_or (set (set bounds (2 * k) end) (2 * k + 1) least) (2 * n) 0)) s
-          (let after : List ℕ = set (set bounds (2 * k) end) (2 * k + 1) least in
-          let y : get_or after (2 * k) 0 ≡ end =
-          get_or-set_other (set bounds (2 * k) end) (2 * k + 1) (2 * k) least 0 (λ q. omega arith) ∙ get_or-set_same bounds (2 * k) end 0 (omega arith) in
-          let z : get_or after (2 * k + 1) 0 ≡ least = get_or-set_same (set bounds (2 * k) end) (2 * k + 1) least 0 (omega (arith, length-set bounds (2 * k) end)) in
-          record { deep = λ j p q l. let v : least ≤ (get_or ps j nowhere).depth = d.deep j p (omega arith) l in omega arith }))
-          (either (ltb k g));
-    }
-
--- ---- the loop that fills it
+-- ---- the loop that fills the table
 
 pub record Filling (map : List ℕ) (places : ℕ) (bounds₀ bounds : List ℕ) (k : ℕ) : Type 0 where
   pub size : length bounds ≡ length bounds₀
   pub room : k ≤ length bounds₀ / 2
   pub blocks : (ps : List Place) → MapHeld ps map → places ≡ length ps → BoundsFrom k ps bounds
-
-pub filling-start : (map : List ℕ) (places : ℕ) (bounds : List ℕ) (k : ℕ) → k ≤ length bounds / 2 → (k < length bounds / 2 → places < 8 * k) → Filling map places bounds bounds k
-filling-start map places bounds k a f = record { size = refl; room = a; blocks = λ ps h e. bounds-none ps bounds k places (length bounds) refl a f e }
-
-pub filling-more : (map : List ℕ) (places : ℕ) (bounds₀ bounds : List ℕ) (k end least : ℕ) → Filling map places bounds₀ bounds k → 0 < k
-    → ((ps : List Place) → MapHeld ps map → places ≡ length ps → BoundsFrom (k - 1 + 1) ps bounds → AsDeep ps least (8 * (k - 1)) (8 * end))
-    → Filling map places bounds₀ (set (set bounds (2 * (k - 1)) end) (2 * (k - 1) + 1) least) (k - 1)
-filling-more map places bounds₀ bounds k end least p l f =
-    let s : length bounds ≡ length bounds₀ = p.size in
-    let r : k ≤ length bounds₀ / 2 = p.room in
-    record {
-      size = length-set (set bounds (2 * (k - 1)) end) (2 * (k - 1) + 1) least ∙ length-set bounds (2 * (k - 1)) end ∙ s;
-      room = omega arith;
-      blocks = λ ps h e.
-          let q : k ≡ k - 1 + 1 = omega arith in
-          let b : BoundsFrom (k - 1 + 1) ps bounds = subst (λ n. BoundsFrom n ps bounds) q (p.blocks ps h e) in
-          bounds-more ps bounds (k - 1) end least (omega arith) b (f ps h e b);
-    }
-
-pub filling-done : (map : List ℕ) (places : ℕ) (bounds₀ bounds : List ℕ) (k : ℕ) → Filling map places bounds₀ bounds k → k ≤ 0 → (ps : List Place) → MapHeld ps map → places ≡ length ps → Bounds ps bounds
-filling-done map places bounds₀ bounds k p l ps h e = subst (λ n. BoundsFrom n ps bounds) (let q : k ≡ 0 = omega arith in q) (p.blocks ps h e)

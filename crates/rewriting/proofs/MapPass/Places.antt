@@ -171,14 +171,6 @@ pub sibling-to : (ps : List Place) (depth old : ℕ) (n : UnitOffset) → new_of
 unfolding as_mapped sibling_of or_else
 sibling-to ps depth old n e = rw e
 
-pub moved_to : (ps : List Place) (old : ℕ) (n : UnitOffset) → new_of ps old ≡ Some n.0 → Some n ≡ as_mapped (new_of ps old)
-unfolding as_mapped
-moved_to ps old n e = rw e
-
-pub moved_none : (ps : List Place) (old : ℕ) → new_of ps old ≡ None → None ≡ as_mapped (new_of ps old)
-unfolding as_mapped
-moved_none ps old e = rw e
-
 -- ---- one place more
 
 pub place-put : (ps : List Place) (map map₁ map₂ map₃ : List ℕ) (i old new depth : ℕ) → i < length map / place_size
@@ -209,34 +201,22 @@ old-read map i r f ps h e l = old-held ps map h i (omega (arith, length-olds ps)
 
 -- ---- the search in any map
 
-pub has_there : (o a v : ℕ) → o ≡ a → eqb o v ≡ eqb a v
-has_there o a v e = ap (λ n. eqb n v) e
-
 module _ (map : List ℕ) (places i v : ℕ) where
-  found-there : (n : UnitOffset) → i < places → old_at map i ≡ v → n.0 ≡ new_at map i → Some n ≡ found_at map places v i
+  pub found-there : (n : UnitOffset) → i < places → old_at map i ≡ v → n.0 ≡ new_at map i → Some n ≡ found_at map places v i
   unfolding found_at
   found-there n l e f = sym (pick_yes _ _ _ (yes_ltb {a = i} {b = places} l) ∙ pick_yes _ _ _ (yes_eqb {a = old_at map i} {b = v} e) ∙ ap (λ k. Some (record { 0 = k })) (sym f))
 
-  found-other : i < places → (old_at map i ≡ v → ⊥) → None ≡ found_at map places v i
+  pub found-other : i < places → (old_at map i ≡ v → ⊥) → None ≡ found_at map places v i
   unfolding found_at
   found-other l e = sym (pick_yes _ _ _ (yes_ltb {a = i} {b = places} l) ∙ pick_no _ _ _ (no_eqb {a = old_at map i} {b = v} e))
 
-  found-beyond : places ≤ i → None ≡ found_at map places v i
+  pub found-beyond : places ≤ i → None ≡ found_at map places v i
   unfolding found_at
   found-beyond l = sym (pick_no _ _ _ (no_ltb {a = i} {b = places} l))
 
-module _ (map : List ℕ) (places i v : ℕ) (is : i ≡ halved places (old_at map) v 0 places) where
-  pub looked-there : (n : UnitOffset) → i < places → old_at map i ≡ v → n.0 ≡ new_at map i → Some n ≡ looked_up map places v
-  unfolding looked_up
-  looked-there n l e f = found-there map places i v n l e f ∙ ap (found_at map places v) is
-
-  pub looked-other : i < places → (old_at map i ≡ v → ⊥) → None ≡ looked_up map places v
-  unfolding looked_up
-  looked-other l e = found-other map places i v l e ∙ ap (found_at map places v) is
-
-  pub looked-beyond : places ≤ i → None ≡ looked_up map places v
-  unfolding looked_up
-  looked-beyond l = found-beyond map places i v l ∙ ap (found_at map places v) is
+pub looked-is : (map : List ℕ) (places i v : ℕ) → i ≡ halved places (old_at map) v 0 places → found_at map places v i ≡ looked_up map places v
+unfolding looked_up
+looked-is map places i v is = ap (found_at map places v) is
 
 -- in a map that holds places: the rank, and the new offset
 pub rank-held : (ps : List Place) (map : List ℕ) (places v : ℕ) → MapHeld ps map → places ≡ length ps → halved places (old_at map) v 0 places ≡ rank_in (old_offsets ps) v

@@ -22,6 +22,7 @@ use Rattle.rewriting.specs.Rewriting.{Room, unit_of, Collected, untouched, rewri
 use Rattle.rewriting.specs.Outputs.{Answer, room_by, answer_for, map_for, output_for, list_or, list_for, ranges_in, locations_in, strings_in}
 use Rattle.rewriting.specs.Inner.Leaving.{Accepts, Answers, left_by, header_task, task_of, MarkedTables, Tabled, Blank, marked_of}
 use Rattle.rewriting.specs.declared.collect.Counts.{Counts}
+use Rattle.rewriting.specs.declared.collect.Collected.{Collected as Answer}
 use Rattle.rewriting.specs.declared.collect.Collected.TheVariants.{Untouched, Rewritten}
 use Rattle.rewriting.specs.declared.collect.Task.{Task}
 use Rattle.rewriting.specs.declared.collect.Task.TheVariants.{Done, Rewrite}
@@ -34,11 +35,11 @@ pub cleared : (n m : ℕ) (s : List ℕ) → s ≡ zeros n → n ≡ m → s ≡
 cleared n m s p q = p ∙ ap (λ (k : ℕ). zeros k) q
 
 module _ (r : Answer) where
-  pub left-untouched : (k : Counts) → r ≡ Ok (Ok (Untouched k)) → (s : List ℕ) → s ≡ left_by r s
+  pub left-untouched : (k : Counts) → r ≡ Ok (Untouched k) → (s : List ℕ) → s ≡ left_by r s
   unfolding left_by
   left-untouched k q s = sym (ap (λ (y : Answer). left_by y s) q)
 
-  pub left-rewritten : (k : Counts) → r ≡ Ok (Ok (Rewritten k)) → (s : List ℕ) → s ≡ left_by r s
+  pub left-rewritten : (k : Counts) → r ≡ Ok (Rewritten k) → (s : List ℕ) → s ≡ left_by r s
   unfolding left_by
   left-rewritten k q s = sym (ap (λ (y : Answer). left_by y s) q)
 
@@ -237,16 +238,16 @@ ends-enough marks pairs offsets parents roots ends targets =
 -- ---- by the tables that marking leaves
 
 -- what is to be done, by the marks and the header
-pub task-refused : (o : Result (Option UnitHeader) ℕ) (m : Result UnitMarks ℕ) (k : ℕ) → m ≡ Err k → Done (Err k) ≡ task_of o m
+pub task-refused : (o : Result (Option UnitHeader) ℕ) (m : UnitMarks) (k : ℕ) → m ≡ Err k → Done (Err k) ≡ task_of o m
 unfolding task_of
 task-refused o m k q = sym (ap (task_of o) q)
 
-pub task-none : (o : Result (Option UnitHeader) ℕ) (m : Result UnitMarks ℕ) (n k : ℕ) (a : Answer) → m ≡ marked n k → n ≡ 0 → a ≡ answer_for (untouched 0 no_lists) → Done a ≡ task_of o m
+pub task-none : (o : Result (Option UnitHeader) ℕ) (m : UnitMarks) (n k : ℕ) (a : Answer) → m ≡ marked n k → n ≡ 0 → a ≡ answer_for (untouched 0 no_lists) → Done a ≡ task_of o m
 unfolding task_of
 task-none o m n k a q z e =
     ap (λ (b : Answer). Done b) e ∙ sym (ap (task_of o) q ∙ pick_yes (eqb n 0) _ _ (yes_eqb {a = n} {b = 0} z))
 
-pub task-some : (o : Result (Option UnitHeader) ℕ) (m : Result UnitMarks ℕ) (n k : ℕ) (t : Task) → m ≡ marked n k → (n ≡ 0 → ⊥) → t ≡ header_task o n k → t ≡ task_of o m
+pub task-some : (o : Result (Option UnitHeader) ℕ) (m : UnitMarks) (n k : ℕ) (t : Task) → m ≡ marked n k → (n ≡ 0 → ⊥) → t ≡ header_task o n k → t ≡ task_of o m
 unfolding task_of
 task-some o m n k t q z e = e ∙ sym (ap (task_of o) q ∙ pick_no (eqb n 0) _ _ (no_eqb {a = n} {b = 0} z))
 
@@ -263,7 +264,7 @@ unfolding header_task
 task-header o n k h q = sym (ap (λ (h : Result (Option UnitHeader) ℕ). header_task h n k) q)
 
 -- what is to be done is to rewrite a unit
-task-rewrite : (o : Result (Option UnitHeader) ℕ) (m : Result UnitMarks ℕ) (h : UnitHeader) (entries kept : ℕ) → task_of o m ≡ Rewrite h entries kept
+task-rewrite : (o : Result (Option UnitHeader) ℕ) (m : UnitMarks) (h : UnitHeader) (entries kept : ℕ) → task_of o m ≡ Rewrite h entries kept
     → (o ≡ Ok (Some h)) × (m ≡ marked entries kept) × (entries ≡ 0 → ⊥)
 unfolding task_of header_task
 task-rewrite o (Err n) h entries kept e = let z : ◌≡◌ {A = ℕ} 0 1 = cc in absurd (omega arith)
@@ -295,7 +296,7 @@ module _ (x : Sections) (tables : Rooms) (t : Bool) (section : List ℕ) (task :
   no_entries q a e =
       nothing-answers _ _ _ _ _ _ _ _ _ _ _ _ q (let z : a ≡ answer_for (untouched 0 no_lists) = cc in z) b.map_blank b.ranges_blank b.locations_blank b.strings_blank b.out_blank
 
-  by-task : (m : Result UnitMarks ℕ) → unit_marks (analysis_of x section tables) ≡ m → (o : Result (Option UnitHeader) ℕ) → header_by x section ≡ o → (a : Answer) → task_of o m ≡ Done a → Answered a map ranges locations strings out
+  by-task : (m : UnitMarks) → unit_marks (analysis_of x section tables) ≡ m → (o : Result (Option UnitHeader) ℕ) → header_by x section ≡ o → (a : Answer) → task_of o m ≡ Done a → Answered a map ranges locations strings out
   unfolding task_of header_task
   by-task (Err k) u o q a = no-unit k (collected-refused x room t section k u) a
   by-task (marked n k) u (Ok None) q a =
@@ -378,7 +379,7 @@ by_lengths f a map' ranges' locations' strings' out' m m₀ r r₀ l l₀ s s₀
     (subst (λ (z : ℕ). Answers (f z r l s o) a z r l s o map' ranges' locations' strings' out') em h))))
 
 -- the answer for marked tables and cleared outputs
-pub unit-answers : (x : Sections) (tables : Rooms) (t : Bool) (section : List ℕ) (task : Task) (h : Result (Option UnitHeader) ℕ) (u : Result UnitMarks ℕ) (n p e k m r l s o : ℕ)
+pub unit-answers : (x : Sections) (tables : Rooms) (t : Bool) (section : List ℕ) (task : Task) (h : Result (Option UnitHeader) ℕ) (u : UnitMarks) (n p e k m r l s o : ℕ)
     (index parents ends marks map ranges locations strings out map' ranges' locations' strings' out' : List ℕ) (a : Answer)
     → task ≡ task_of h u → h ≡ header_by x section → u ≡ unit_marks (analysis_of x section tables)
     → index ≡ index_after x.abbreviations (header_by x section) n → length index ≡ n

@@ -4,7 +4,7 @@ use Prim.Native.Nat.{ℕ, zero, suc, ◌+◌, ◌-◌, ◌^◌, ◌≤◌, ◌<�
 use native.Mathlib.Omega.{arith}
 use mathlib.Core.Bool.{Bool, true, false, false≢true}
 use mathlib.Core.List.{List, [], ◌∷◌, ◌++◌}
-use Rattle.std.specs.Prelude.{Option, Err, None, Ok, Result}
+use Rattle.std.specs.Prelude.{Option, Err, None, Ok}
 use lib.ListN.{length, take, get_or}
 use lib.Dec.{leb}
 use borrow.Author.Tests.{eq-eqb, ne_eqb}
@@ -32,8 +32,9 @@ use Rattle.rewriting.specs.Inner.Emission.{ListsLent}
 use Rattle.rewriting.specs.Outputs.{Answer, room_by, list_count, answer_for, map_for, output_for, list_or, list_for, ranges_in, locations_in, strings_in}
 use Rattle.rewriting.specs.Inner.Leaving.{Accepts, Answers, Tabled, Blank, marked_of, list_room, ListsAnswer, Writable, WriteAnswer}
 use Rattle.rewriting.specs.declared.kept_items.Reading.{Reading}
-use Rattle.rewriting.specs.declared.collect.Listed.{Listed}
 use Rattle.rewriting.specs.Refusals.{listed}
+use Rattle.rewriting.specs.declared.collect.Listed.{Listed}
+use Rattle.rewriting.specs.declared.collect.Collected.{Collected as Answer}
 use Rattle.rewriting.specs.declared.collect.Collected.TheVariants.{Untouched}
 use Rattle.readers.specs.Header.{length_size}
 use Rattle.readers.proofs.HeaderLaws.{HeaderLaw, header-laws}
@@ -187,7 +188,7 @@ rewrite-lists x room u entries kept l items f n =
 module _ (t : Bool) (section : List ℕ) (h : UnitHeader) (s index parents ends marks : List ℕ) (entries kept : ℕ) (map ranges locations strings out unit : List ℕ) (is : unit ≡ take h.end section)
     (ends' : List ℕ)
     (fe : entry_count (items_by (reading h.abbreviations h.encoding) s index unit h.first.0) ≤ length ends → EndsHeld ends' 0 (items_by (reading h.abbreviations h.encoding) s index unit h.first.0))
-    (listed : Option Listed) (ranges' locations' strings' : List ℕ)
+    (listed : Listed) (ranges' locations' strings' : List ℕ)
     (il : (x : Sections) (u : Unit') → PassInput x u (reading h.abbreviations h.encoding) s index unit parents ends' marks h.first.0 → h.first.0 ≡ u.header.first.0
     → ranges ≡ zeros (length ranges) → locations ≡ zeros (length locations) → strings ≡ zeros (length strings)
     → ListsAnswer (lists_of x u t (kept_from marks 0 [] (items_in x u))) (length ranges) (length locations) (length strings) listed ranges' locations' strings') where
@@ -247,7 +248,7 @@ module _ (t : Bool) (section : List ℕ) (h : UnitHeader) (s index parents ends 
     short-one e = refused-answers (marked_of x room t u rows) (Err 12) (length map) (length ranges) (length locations) (length strings) (length out) map ranges' locations' strings' out 12 (is-short-of (fits-short e)) refl
 
     untouched-one : (p q r : Option ℕ) → listed ≡ listed p q r → kept ≡ entries
-        → Answers (marked_of x room t u rows) (Ok (Ok (Untouched (record { entries = entries; kept = kept; places = 0; bytes = 0; ranges = p; locations = q; strings = r }))))
+        → Answers (marked_of x room t u rows) (Ok (Untouched (record { entries = entries; kept = kept; places = 0; bytes = 0; ranges = p; locations = q; strings = r })))
         (length map) (length ranges) (length locations) (length strings) (length out) map ranges' locations' strings' out
     unfolding answer_for map_for list_for output_for
     untouched-one p q r e k =
@@ -258,11 +259,11 @@ module _ (t : Bool) (section : List ℕ) (h : UnitHeader) (s index parents ends 
         let ek : kept ≡ n = k ∙ w.entries_are in
         record {
           told =
-              ap (λ (v : ℕ). Ok (Ok (Untouched (record { entries = v; kept = kept; places = 0; bytes = 0; ranges = p; locations = q; strings = r })))) w.entries_are
-              ∙ ap (λ (v : ℕ). Ok (Ok (Untouched (record { entries = n; kept = v; places = 0; bytes = 0; ranges = p; locations = q; strings = r })))) ek
-              ∙ ap (λ (v : Option ℕ). Ok (Ok (Untouched (record { entries = n; kept = n; places = 0; bytes = 0; ranges = v; locations = q; strings = r })))) z.0
-              ∙ ap (λ (v : Option ℕ). Ok (Ok (Untouched (record { entries = n; kept = n; places = 0; bytes = 0; ranges = list_count l.ranges; locations = v; strings = r })))) z.1
-              ∙ ap (λ (v : Option ℕ). Ok (Ok (Untouched (record { entries = n; kept = n; places = 0; bytes = 0; ranges = list_count l.ranges; locations = list_count l.locations; strings = v })))) z.2
+              ap (λ (v : ℕ). Ok (Untouched (record { entries = v; kept = kept; places = 0; bytes = 0; ranges = p; locations = q; strings = r }))) w.entries_are
+              ∙ ap (λ (v : ℕ). Ok (Untouched (record { entries = n; kept = v; places = 0; bytes = 0; ranges = p; locations = q; strings = r }))) ek
+              ∙ ap (λ (v : Option ℕ). Ok (Untouched (record { entries = n; kept = n; places = 0; bytes = 0; ranges = v; locations = q; strings = r }))) z.0
+              ∙ ap (λ (v : Option ℕ). Ok (Untouched (record { entries = n; kept = n; places = 0; bytes = 0; ranges = list_count l.ranges; locations = v; strings = r }))) z.1
+              ∙ ap (λ (v : Option ℕ). Ok (Untouched (record { entries = n; kept = n; places = 0; bytes = 0; ranges = list_count l.ranges; locations = list_count l.locations; strings = v }))) z.2
               ∙ sym (ap answer_for c);
           map_left = λ _. b.map_blank ∙ sym (ap (map_for (length map)) c);
           ranges_left = λ _. those.ranges_left y ∙ sym (ap (list_for ranges_in (length ranges)) c);
@@ -312,7 +313,7 @@ module _ (t : Bool) (section : List ℕ) (h : UnitHeader) (s index parents ends 
   short-unit e x tables ds rows w b = short-one x tables ds rows w b e
 
   pub untouched-unit : (p q r : Option ℕ) → listed ≡ listed p q r → kept ≡ entries
-      → Goal (Ok (Ok (Untouched (record { entries = entries; kept = kept; places = 0; bytes = 0; ranges = p; locations = q; strings = r })))) map out
+      → Goal (Ok (Untouched (record { entries = entries; kept = kept; places = 0; bytes = 0; ranges = p; locations = q; strings = r }))) map out
   untouched-unit p q r e k x tables ds rows w b = untouched-one x tables ds rows w b p q r e k
 
   pub written-unit : (p q r : Option ℕ) → listed ≡ listed p q r → (kept ≡ entries → ⊥) → (a : Answer) (map' out' : List ℕ)

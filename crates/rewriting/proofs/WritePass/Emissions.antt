@@ -1,6 +1,6 @@
 -- Bytes put into the output one after the other, and the numbers among them. Assumes nothing.
 use mathlib.Core.Path.{◌≡◌, refl, ap, ap₂, sym, ◌∙◌, subst}
-use Prim.Native.Nat.{ℕ, suc, ◌+◌, ◌-◌, ◌^◌, ◌≤◌, ◌<◌}
+use Prim.Native.Nat.{ℕ, suc, min, ◌+◌, ◌-◌, ◌^◌, ◌≤◌, ◌<◌}
 use native.Mathlib.Omega.{arith}
 use mathlib.Core.Bool.{Bool, true, false}
 use mathlib.Core.List.{List, [], ◌++◌, append_assoc, append-nil}
@@ -9,7 +9,7 @@ use mathlib.Core.Logic.{⊎_elim}
 use lib.ListN.{length, take, drop, length-append, length-drop, drop_of_length-le, take-append-drop}
 use lib.Seq.{length-take-le, take_at, drop-append-add, drop-drop, take_all, take-nil}
 use lib.Dec.{T, ltb, leb, eqb}
-use mir.Facts.{yes_ltb, yes_leb, no_leb, leb_yes, eqb_yes, eqb_no, no_eqb, yes_eqb}
+use mir.Facts.{yes_ltb, ltb_yes, ltb_no, yes_leb, no_leb, leb_yes, eqb_yes, eqb_no, no_eqb, yes_eqb}
 use Rattle.readers.specs.Choice.{pick, ◌and◌, put}
 use Rattle.readers.proofs.Choice.{pick_yes, pick_no, either}
 use Rattle.readers.specs.Layout.{Encoded, width, number_bytes, fits}
@@ -323,15 +323,21 @@ module _ (s : List ℕ) (from to : ℕ) where
   unfolding between
   between-past h = sym (ap (take (to - from)) (drop_of_length-le s h) ∙ take-nil (to - from))
 
-  pub between-rest : length s < to → take (length s - from) (drop from s) ≡ between s from to
-  unfolding between
-  between-rest h =
-      take_all (length s - from) (drop from s) (omega (arith, length-drop from s))
-      ∙ sym (take_all (to - from) (drop from s) (omega (arith, length-drop from s)))
-
   pub between-whole : take (to - from) (drop from s) ≡ between s from to
   unfolding between
   between-whole = refl
+
+  -- as far as the slice goes
+  pub between-least : (m : ℕ) → m ≡ min to (length s) → take (m - from) (drop from s) ≡ between s from to
+  unfolding between
+  between-least m e =
+      ⊎_elim
+      (λ t. let l : length s < to = ltb_yes {a = length s} {b = to} t in
+      take_all (m - from) (drop from s) (omega (arith, length-drop from s))
+      ∙ sym (take_all (to - from) (drop from s) (omega (arith, length-drop from s))))
+      (λ t. let l : to ≤ length s = ltb_no {a = length s} {b = to} t in
+      ap (λ (n : ℕ). take (n - from) (drop from s)) (let k : m ≡ to = omega arith in k))
+      (either (ltb (length s) to))
 
 -- ---- numbers
 

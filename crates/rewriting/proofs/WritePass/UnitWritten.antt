@@ -37,6 +37,7 @@ use Rattle.rewriting.specs.Outputs.{Answer, list_count, answer_for, map_for, out
 use Rattle.rewriting.specs.Inner.Leaving.{Accepts, Writable, WriteAnswer}
 use Rattle.rewriting.specs.declared.kept_items.Reading.{Reading}
 use Rattle.rewriting.specs.declared.offset_pass.Size.{Size}
+use Rattle.rewriting.specs.declared.collect.Collected.{Collected as Answer}
 use Rattle.rewriting.specs.declared.collect.Collected.TheVariants.{Rewritten}
 use Rattle.rewriting.proofs.WritePass.Emissions.{EmitsAt}
 use Rattle.rewriting.proofs.KeptPass.DeepReads.{like-width, like-patched, deep-ends}
@@ -296,7 +297,7 @@ module _ (r : Reading) (s table unit parents ends marks : List ℕ) (first entri
 
       was-written : (to : ℕ) → emitted ≡ Ok to
           → WriteAnswer (rewrite_of x room u entries kept lists items)
-          (Ok (Ok (Rewritten (record { entries = entries; kept = kept; places = z.places; bytes = z.bytes; ranges = rc; locations = lc; strings = sc })))) (length map) (length out) map' out₂
+          (Ok (Rewritten (record { entries = entries; kept = kept; places = z.places; bytes = z.bytes; ranges = rc; locations = lc; strings = sc }))) (length map) (length out) map' out₂
       unfolding answer_for map_for output_for pad_to
       was-written to q =
           let n : refusal_from x u lists ps items ≡ 0 = is-written to q in
@@ -306,11 +307,11 @@ module _ (r : Reading) (s table unit parents ends marks : List ℕ) (first entri
           let pl : length ps ≡ z.places = length-places first items ∙ sym places_are in
           record {
             told =
-                ap (λ (v : ℕ). Ok (Ok (Rewritten (record { entries = entries; kept = kept; places = v; bytes = z.bytes; ranges = rc; locations = lc; strings = sc })))) (sym pl)
-                ∙ ap (λ (v : ℕ). Ok (Ok (Rewritten (record { entries = entries; kept = kept; places = length ps; bytes = v; ranges = rc; locations = lc; strings = sc })))) (sym ub)
-                ∙ ap (λ (v : Option ℕ). Ok (Ok (Rewritten (record { entries = entries; kept = kept; places = length ps; bytes = length (unit_bytes x u lists ps items); ranges = v; locations = lc; strings = sc })))) (lent-count lists.ranges rl rc l.those_ranges)
-                ∙ ap (λ (v : Option ℕ). Ok (Ok (Rewritten (record { entries = entries; kept = kept; places = length ps; bytes = length (unit_bytes x u lists ps items); ranges = list_count lists.ranges; locations = v; strings = sc })))) (lent-count lists.locations ll lc l.those_locations)
-                ∙ ap (λ (v : Option ℕ). Ok (Ok (Rewritten (record { entries = entries; kept = kept; places = length ps; bytes = length (unit_bytes x u lists ps items); ranges = list_count lists.ranges; locations = list_count lists.locations; strings = v })))) (lent-count lists.strings sl sc l.those_strings)
+                ap (λ (v : ℕ). Ok (Rewritten (record { entries = entries; kept = kept; places = v; bytes = z.bytes; ranges = rc; locations = lc; strings = sc }))) (sym pl)
+                ∙ ap (λ (v : ℕ). Ok (Rewritten (record { entries = entries; kept = kept; places = length ps; bytes = v; ranges = rc; locations = lc; strings = sc }))) (sym ub)
+                ∙ ap (λ (v : Option ℕ). Ok (Rewritten (record { entries = entries; kept = kept; places = length ps; bytes = length (unit_bytes x u lists ps items); ranges = v; locations = lc; strings = sc }))) (lent-count lists.ranges rl rc l.those_ranges)
+                ∙ ap (λ (v : Option ℕ). Ok (Rewritten (record { entries = entries; kept = kept; places = length ps; bytes = length (unit_bytes x u lists ps items); ranges = list_count lists.ranges; locations = v; strings = sc }))) (lent-count lists.locations ll lc l.those_locations)
+                ∙ ap (λ (v : Option ℕ). Ok (Rewritten (record { entries = entries; kept = kept; places = length ps; bytes = length (unit_bytes x u lists ps items); ranges = list_count lists.ranges; locations = list_count lists.locations; strings = v }))) (lent-count lists.strings sl sc l.those_strings)
                 ∙ sym (ap answer_for c);
             map_left = λ _. map-there ∙ sym (ap (map_for (length map)) c);
             out_left = λ _. out-is front body out out₁ out₂ first length_front w.out_blank header-there.1 (it.fine room_out n).1 ∙ ap (pad_to (length out)) (sym unit-bytes-are) ∙ sym (ap (output_for (length out)) c);
@@ -330,7 +331,7 @@ module _ (r : Reading) (s table unit parents ends marks : List ℕ) (first entri
       (emits : (x : Sections) (u : Unit') (lists : Lists) (ps : List Place) → PassInput x u r s table unit parents ends marks first → first ≡ u.header.first.0
       → MapHeld ps map' → z.places ≡ length ps → Bounds ps bounds → ListsLent lists rl rc ll lc sl sc
       → EmitsAt (refusal_from x u lists ps (kept_from marks 0 [] (items_in x u))) (bytes_from x u lists ps (kept_from marks 0 [] (items_in x u))) out₁ at emitted out₂) where
-    pub unit-written : (to : ℕ) → emitted ≡ Ok to → Goal (Ok (Ok (Rewritten (record { entries = entries; kept = kept; places = z.places; bytes = z.bytes; ranges = rc; locations = lc; strings = sc })))) out₂
+    pub unit-written : (to : ℕ) → emitted ≡ Ok to → Goal (Ok (Rewritten (record { entries = entries; kept = kept; places = z.places; bytes = z.bytes; ranges = rc; locations = lc; strings = sc }))) out₂
     unit-written to q x u lists room p l w = by-items x u lists room p l w _ out₂ (was-written x u lists room p l w few less out₁ out₂ bounds bounded same at headed emitted emits to q)
 
     pub unit-refused : (k : ℕ) → emitted ≡ Err k → Goal (Err k) out₂

@@ -17,11 +17,8 @@ slice_bounds-emit_dies-count c = omega (arith, inside _ _ _ (header-inside _ _ _
 pub slice_bounds-emit_dies-start : goal.slice_bounds-emit_dies-start
 slice_bounds-emit_dies-start c = omega (arith, inside _ _ _ (header-inside _ _ _ _ _ _ _ c.emit_header-at.ensures.count c.emit_header-at.ensures.part))
 
-pub slice_bounds-emit_dies-end : goal.slice_bounds-emit_dies-end
-slice_bounds-emit_dies-end c = omega (arith, inside _ _ _ (header-inside _ _ _ _ _ _ _ c.emit_header-at.ensures.count c.emit_header-at.ensures.part))
+pub returns-in-To : goal.returns-in-To
+returns-in-To c = unit-written _ _ _ _ _ _ _ _ _ _ _ _ _ _ _ _ _ _ _ c.place_items-size.ensures.0 _ c.place_items-size.ensures.1 c.place_items-size.auto.map c.if-size-map.false c.if-size-out.false _ _ _ c.fill_work.ensures c.emit_header-at.auto.out _ (λ f. header-there _ _ _ _ _ f _ _ c.emit_header-at.ensures.count c.emit_header-at.ensures.part) _ (λ x u lists ps p q m n b g. emits-on _ _ _ (header-inside _ _ _ _ _ _ _ c.emit_header-at.ensures.count c.emit_header-at.ensures.part) (c.emit_dies.ensures.bytes x u lists ps p q m n b g)) _ (onward-to _ _ _ c.in-To.is)
 
-pub returns-in-Ok : goal.returns-in-Ok
-returns-in-Ok c = unit-written _ _ _ _ _ _ _ _ _ _ _ _ _ _ _ _ _ _ _ c.place_items-size.ensures.0 _ c.place_items-size.ensures.1 c.place_items-size.auto.map c.if-size-map.false c.if-size-out.false _ _ _ c.fill_work.ensures c.emit_header-at.auto.out _ (λ f. header-there _ _ _ _ _ f _ _ c.emit_header-at.ensures.count c.emit_header-at.ensures.part) _ (λ x u lists ps p q m n b g. emits-on _ _ _ (header-inside _ _ _ _ _ _ _ c.emit_header-at.ensures.count c.emit_header-at.ensures.part) (c.emit_dies.ensures.bytes x u lists ps p q m n b g)) _ (onward-to _ _ _ c.in-Ok.is)
-
-pub returns-in-Err : goal.returns-in-Err
-returns-in-Err c = unit-refused _ _ _ _ _ _ _ _ _ _ _ _ _ _ _ _ _ _ _ c.place_items-size.ensures.0 _ c.place_items-size.ensures.1 c.place_items-size.auto.map c.if-size-map.false c.if-size-out.false _ _ _ c.fill_work.ensures c.emit_header-at.auto.out _ (λ f. header-there _ _ _ _ _ f _ _ c.emit_header-at.ensures.count c.emit_header-at.ensures.part) _ (λ x u lists ps p q m n b g. emits-on _ _ _ (header-inside _ _ _ _ _ _ _ c.emit_header-at.ensures.count c.emit_header-at.ensures.part) (c.emit_dies.ensures.bytes x u lists ps p q m n b g)) _ (onward-no _ _ _ c.in-Err.is)
+pub returns-in-Refused : goal.returns-in-Refused
+returns-in-Refused c = unit-refused _ _ _ _ _ _ _ _ _ _ _ _ _ _ _ _ _ _ _ c.place_items-size.ensures.0 _ c.place_items-size.ensures.1 c.place_items-size.auto.map c.if-size-map.false c.if-size-out.false _ _ _ c.fill_work.ensures c.emit_header-at.auto.out _ (λ f. header-there _ _ _ _ _ f _ _ c.emit_header-at.ensures.count c.emit_header-at.ensures.part) _ (λ x u lists ps p q m n b g. emits-on _ _ _ (header-inside _ _ _ _ _ _ _ c.emit_header-at.ensures.count c.emit_header-at.ensures.part) (c.emit_dies.ensures.bytes x u lists ps p q m n b g)) _ (onward-no _ _ _ c.in-Refused.is)

@@ -1,15 +1,10 @@
 -- `bytes_between`: nothing, what the slice has, or all. Assumes nothing.
-use Rattle.rewriting.proofs.WritePass.Emissions.{between-nothing, between-past, between-rest, between-whole}
+use mathlib.Core.Logic.{⊎_elim}
+use Rattle.rewriting.proofs.WritePass.Emissions.{between-nothing, between-past, between-least}
 use Rattle.rewriting.proofs.emit_entry.bytes_between.Goals as goal
 
 pub returns-then-from-to : goal.returns-then-from-to
-returns-then-from-to c = between-nothing _ _ _ c.if-from-to.true
-
-pub returns-then-from-s : goal.returns-then-from-s
-returns-then-from-s c = between-past _ _ _ c.if-from-s.true
-
-pub returns-then-to-s : goal.returns-then-to-s
-returns-then-to-s c = between-rest _ _ _ c.if-to-s.true
+returns-then-from-to c = ⊎_elim (λ h. between-nothing _ _ _ h) (λ h. between-past _ _ _ h.1) c.then-from-to.either
 
 pub returns : goal.returns
-returns c = between-whole _ _ _
+returns c = between-least _ _ _ _ c.min.ensures

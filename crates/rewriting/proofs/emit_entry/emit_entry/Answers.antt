@@ -1,8 +1,7 @@
 -- `emit_entry`: the invariant is that the answer from here on is that of all attributes. Assumes nothing.
 use mathlib.Core.Path.{refl, ap}
-use native.Mathlib.Omega.{arith}
 use Rattle.readers.specs.declared.cursor.Cursor.{Cursor}
-use Rattle.rewriting.proofs.WritePass.Emissions.{from_start, within-self, within-trans, within_on, within-stop, inside, copied-front, copied-within, copied_on, emits-on, size_small, after_small, onward-to, onward-no}
+use Rattle.rewriting.proofs.WritePass.Emissions.{from_start, within-self, within-trans, within_on, within-stop, copied-front, copied-within, copied_on, emits-on, size_small, after_small, onward-to, onward-no}
 use Rattle.rewriting.proofs.WritePass.EntryEmits.{entering-begin, entry_done, entering-less, entering-end, entering-refused, entering-on}
 use Rattle.rewriting.proofs.MapPass.Exact.{are-bytes}
 use Rattle.rewriting.proofs.WritePass.Plans.{plan-over, plan-more, plan-copied, copied-less, entering-copied}
@@ -10,15 +9,6 @@ use Rattle.rewriting.proofs.emit_entry.emit_entry.Goals as goal
 
 pub loop-past-init : goal.loop-past-init
 loop-past-init c = (within-self (copied-within _ _ _ _ c.emit_bytes-to.ensures.count c.emit_bytes-to.ensures.part), λ lists ps whole rest m n b lent i d. entering-begin lists ps _ _ _ _ whole _ _ _ _ rest i d)
-
-pub slice_bounds-emit_bytes-count : goal.slice_bounds-emit_bytes-count
-slice_bounds-emit_bytes-count c = omega (arith, inside _ _ _ c.loop-past.invariant.0)
-
-pub slice_bounds-emit_bytes-start : goal.slice_bounds-emit_bytes-start
-slice_bounds-emit_bytes-start c = omega (arith, inside _ _ _ c.loop-past.invariant.0)
-
-pub slice_bounds-emit_bytes-end : goal.slice_bounds-emit_bytes-end
-slice_bounds-emit_bytes-end c = omega (arith, inside _ _ _ c.loop-past.invariant.0)
 
 pub overflow_add-to : goal.overflow_add-to
 overflow_add-to c = record { fits = after_small _ _ _ c.loop-past.invariant.0 _ _ (copied-within _ _ _ _ c.emit_bytes-n.ensures.count c.emit_bytes-n.ensures.part) (size_small (copied-within _ _ _ _ c.emit_bytes-to.ensures.count c.emit_bytes-to.ensures.part) c.well_formed.1.1.1.1.1.1.1.1.1.1.1.1.1.1.1.1.0.0) _ refl }
@@ -35,29 +25,17 @@ loop-past-preserved-in-Copy c = (
       (copied_on _ _ _ c.loop-past.invariant.0 _ _ _ c.emit_bytes-n.ensures.count c.emit_bytes-n.ensures.part _ c.bytes_between-in-Copy.ensures),
 )
 
-pub slice_bounds-emit_attribute-count : goal.slice_bounds-emit_attribute-count
-slice_bounds-emit_attribute-count c = omega (arith, inside _ _ _ c.loop-past.invariant.0)
-
-pub slice_bounds-emit_attribute-start : goal.slice_bounds-emit_attribute-start
-slice_bounds-emit_attribute-start c = omega (arith, inside _ _ _ c.loop-past.invariant.0)
-
-pub slice_bounds-emit_attribute-end : goal.slice_bounds-emit_attribute-end
-slice_bounds-emit_attribute-end c = omega (arith, inside _ _ _ c.loop-past.invariant.0)
-
-pub overflow_add-to-in-Ok : goal.overflow_add-to-in-Ok
-overflow_add-to-in-Ok c = record { fits = after_small _ _ _ c.loop-past.invariant.0 _ _ c.emit_attribute.ensures.within (size_small (copied-within _ _ _ _ c.emit_bytes-to.ensures.count c.emit_bytes-to.ensures.part) c.well_formed.1.1.1.1.1.1.1.1.1.1.1.1.1.1.1.1.0.0) _ c.in-Ok.is }
-
-pub returns-in-Err : goal.returns-in-Err
-returns-in-Err c = record {
+pub returns-in-Refused : goal.returns-in-Refused
+returns-in-Refused c = record {
   within = within-trans (copied-within _ _ _ _ c.emit_bytes-to.ensures.count c.emit_bytes-to.ensures.part) (within-stop _ _ _ c.loop-past.invariant.0 _ _ c.emit_attribute.ensures.within _);
-  bytes = λ lists ps look x rs rest m n b lent step sp va d. from_start (entry_done _ _ look _ _ x step rs rest d _ _ (ap (λ (k : Cursor). k.at) sp) (ap (λ (k : Cursor). k.at) va) lists ps _ _ _ _ _ (λ _ _. copied-front _ _ _ _ c.emit_bytes-to.ensures.count c.emit_bytes-to.ensures.part _ c.bytes_between.ensures) _ _ (λ reads after i k. entering-refused lists ps _ _ _ _ reads _ _ _ _ _ _ (c.loop-past.invariant.1 lists ps reads after m n b lent i k) _ (plan-more _ _ c.next_plan.ensures _ c.in-Change.is) _ refl _ _ (λ one mid j v e. emits-on _ _ _ c.loop-past.invariant.0 (c.emit_attribute.ensures.bytes lists ps one mid m n b lent j v e)) _ (onward-no _ _ _ c.in-Err.is)));
+  bytes = λ lists ps look x rs rest m n b lent step sp va d. from_start (entry_done _ _ look _ _ x step rs rest d _ _ (ap (λ (k : Cursor). k.at) sp) (ap (λ (k : Cursor). k.at) va) lists ps _ _ _ _ _ (λ _ _. copied-front _ _ _ _ c.emit_bytes-to.ensures.count c.emit_bytes-to.ensures.part _ c.bytes_between.ensures) _ _ (λ reads after i k. entering-refused lists ps _ _ _ _ reads _ _ _ _ _ _ (c.loop-past.invariant.1 lists ps reads after m n b lent i k) _ (plan-more _ _ c.next_plan.ensures _ c.in-Change.is) _ refl _ _ (λ one mid j v e. emits-on _ _ _ c.loop-past.invariant.0 (c.emit_attribute.ensures.bytes lists ps one mid m n b lent j v e)) _ (onward-no _ _ _ c.in-Refused.is)));
 }
 
 pub loop-past-smaller : goal.loop-past-smaller
 loop-past-smaller c = entering-less _ _ _ _ _ _ _ (plan-more _ _ c.next_plan.ensures _ c.in-Change.is) refl
 
 pub loop-past-preserved : goal.loop-past-preserved
-loop-past-preserved c = (within_on _ _ _ c.loop-past.invariant.0 _ _ c.emit_attribute.ensures.within _ c.in-Ok.is, λ lists ps reads after m n b lent i k. entering-on lists ps _ _ _ _ reads _ _ _ _ _ _ (c.loop-past.invariant.1 lists ps reads after m n b lent i k) _ (plan-more _ _ c.next_plan.ensures _ c.in-Change.is) _ refl _ _ (λ one mid j v e. emits-on _ _ _ c.loop-past.invariant.0 (c.emit_attribute.ensures.bytes lists ps one mid m n b lent j v e)) _ (onward-to _ _ _ c.in-Ok.is))
+loop-past-preserved c = (within_on _ _ _ c.loop-past.invariant.0 _ _ c.emit_attribute.ensures.within _ c.in-To.is, λ lists ps reads after m n b lent i k. entering-on lists ps _ _ _ _ reads _ _ _ _ _ _ (c.loop-past.invariant.1 lists ps reads after m n b lent i k) _ (plan-more _ _ c.next_plan.ensures _ c.in-Change.is) _ refl _ _ (λ one mid j v e. emits-on _ _ _ c.loop-past.invariant.0 (c.emit_attribute.ensures.bytes lists ps one mid m n b lent j v e)) _ (onward-to _ _ _ c.in-To.is))
 
 pub returns-in-Over : goal.returns-in-Over
 returns-in-Over c = record {

@@ -11,11 +11,11 @@ returns-then-copies c = search plan-copy
 pub returns-in_default-attribute : goal.returns-in_default-attribute
 returns-in_default-attribute c = search plan-none
 
-pub returns-in-Some-attribute : goal.returns-in-Some-attribute
-returns-in-Some-attribute c = search plan-change
+pub returns-in-Read : goal.returns-in-Read
+returns-in-Read c = search plan-change
 
-pub returns-in-Some-attribute_spec : goal.returns-in-Some-attribute_spec
-returns-in-Some-attribute_spec c = search plan-last
+pub returns-in-Last : goal.returns-in-Last
+returns-in-Last c = search plan-last
 
-pub returns-in-None : goal.returns-in-None
-returns-in-None c = search plan-bad
+pub returns-in-Unreadable : goal.returns-in-Unreadable
+returns-in-Unreadable c = search plan-bad

@@ -1,13 +1,12 @@
 -- `emit_dies`: what is said of the items from here on is said of all. Assumes nothing.
 use mathlib.Core.Path.{refl}
-use native.Mathlib.Omega.{arith}
 use Rattle.rewriting.proofs.KeptPass.KeptPasses.{next-less}
-use Rattle.rewriting.proofs.WritePass.Emissions.{from_start, within-start, within_on, within-stop, inside, copied-within, copied_on, emits-on, after_small, onward-to, onward-no}
+use Rattle.rewriting.proofs.WritePass.Emissions.{from_start, within-start, within_on, within-stop, copied-within, copied_on, emits-on, after_small, onward-to, onward-no}
 use Rattle.rewriting.proofs.WritePass.ItemEmits.{writing_start, writing-end, writing-refused, writing-entry, writing-terminator}
 use Rattle.rewriting.proofs.emit_unit.emit_dies.Goals as goal
 
 pub loop-x-init : goal.loop-x-init
-loop-x-init c = (within-start _, λ x u lists ps p q h k b g. writing_start _ _ _ _ _ _ _ _ x u lists ps p q _ _ c.outside.ensures)
+loop-x-init c = rw c.start-s.ensures (within-start _, λ x u lists ps p q h k b g. writing_start _ _ _ _ _ _ _ _ x u lists ps p q _ _ refl)
 
 pub returns-in_default : goal.returns-in_default
 returns-in_default c = record {
@@ -15,38 +14,17 @@ returns-in_default c = record {
   bytes = λ x u lists ps p q h k b g. from_start (writing-end _ _ _ _ _ _ _ _ x u lists ps p _ _ _ _ (c.loop-x.invariant.1 x u lists ps p q h k b g) _ c.next_kept.ensures c.in_default.is);
 }
 
-pub slice_bounds-emit_entry-count : goal.slice_bounds-emit_entry-count
-slice_bounds-emit_entry-count c = omega (arith, inside _ _ _ c.loop-x.invariant.0)
+pub loop-x-smaller-in-To : goal.loop-x-smaller-in-To
+loop-x-smaller-in-To c = search next-less
 
-pub slice_bounds-emit_entry-start : goal.slice_bounds-emit_entry-start
-slice_bounds-emit_entry-start c = omega (arith, inside _ _ _ c.loop-x.invariant.0)
+pub loop-x-preserved-in-To : goal.loop-x-preserved-in-To
+loop-x-preserved-in-To c = (within_on _ _ _ c.loop-x.invariant.0 _ _ c.emit_entry.ensures.within _ c.in-To.is, λ x u lists ps p q h k b g. writing-entry _ _ _ _ _ _ _ _ x u lists ps p _ _ _ _ (c.loop-x.invariant.1 x u lists ps p q h k b g) _ c.next_kept.ensures c.in-Item.x c.in-Item.is c.if-x.true _ _ (λ look z rs rest s t v d. emits-on _ _ _ c.loop-x.invariant.0 (c.emit_entry.ensures.bytes lists ps look z rs rest h k b g s t v d)) _ (onward-to _ _ _ c.in-To.is))
 
-pub slice_bounds-emit_entry-end : goal.slice_bounds-emit_entry-end
-slice_bounds-emit_entry-end c = omega (arith, inside _ _ _ c.loop-x.invariant.0)
-
-pub overflow_add-to : goal.overflow_add-to
-overflow_add-to c = record { fits = after_small _ _ _ c.loop-x.invariant.0 _ _ c.emit_entry.ensures.within c.well_formed.1.1.1.1.1.1.1.1.1.1.1.1.1.1.1.1.1.0.0 _ c.in-Ok.is }
-
-pub loop-x-smaller-in-Ok : goal.loop-x-smaller-in-Ok
-loop-x-smaller-in-Ok c = search next-less
-
-pub loop-x-preserved-in-Ok : goal.loop-x-preserved-in-Ok
-loop-x-preserved-in-Ok c = (within_on _ _ _ c.loop-x.invariant.0 _ _ c.emit_entry.ensures.within _ c.in-Ok.is, λ x u lists ps p q h k b g. writing-entry _ _ _ _ _ _ _ _ x u lists ps p _ _ _ _ (c.loop-x.invariant.1 x u lists ps p q h k b g) _ c.next_kept.ensures c.in-Some.x c.in-Some.is c.if-x.true _ _ (λ look z rs rest s t v d. emits-on _ _ _ c.loop-x.invariant.0 (c.emit_entry.ensures.bytes lists ps look z rs rest h k b g s t v d)) _ (onward-to _ _ _ c.in-Ok.is))
-
-pub returns-in-Err : goal.returns-in-Err
-returns-in-Err c = record {
+pub returns-in-Refused : goal.returns-in-Refused
+returns-in-Refused c = record {
   within = within-stop _ _ _ c.loop-x.invariant.0 _ _ c.emit_entry.ensures.within _;
-  bytes = λ x u lists ps p q h k b g. from_start (writing-refused _ _ _ _ _ _ _ _ x u lists ps p _ _ _ _ (c.loop-x.invariant.1 x u lists ps p q h k b g) _ c.next_kept.ensures c.in-Some.x c.in-Some.is c.if-x.true _ _ (λ look z rs rest s t v d. emits-on _ _ _ c.loop-x.invariant.0 (c.emit_entry.ensures.bytes lists ps look z rs rest h k b g s t v d)) _ (onward-no _ _ _ c.in-Err.is));
+  bytes = λ x u lists ps p q h k b g. from_start (writing-refused _ _ _ _ _ _ _ _ x u lists ps p _ _ _ _ (c.loop-x.invariant.1 x u lists ps p q h k b g) _ c.next_kept.ensures c.in-Item.x c.in-Item.is c.if-x.true _ _ (λ look z rs rest s t v d. emits-on _ _ _ c.loop-x.invariant.0 (c.emit_entry.ensures.bytes lists ps look z rs rest h k b g s t v d)) _ (onward-no _ _ _ c.in-Refused.is));
 }
-
-pub slice_bounds-emit_bytes-count : goal.slice_bounds-emit_bytes-count
-slice_bounds-emit_bytes-count c = omega (arith, inside _ _ _ c.loop-x.invariant.0)
-
-pub slice_bounds-emit_bytes-start : goal.slice_bounds-emit_bytes-start
-slice_bounds-emit_bytes-start c = omega (arith, inside _ _ _ c.loop-x.invariant.0)
-
-pub slice_bounds-emit_bytes-end : goal.slice_bounds-emit_bytes-end
-slice_bounds-emit_bytes-end c = omega (arith, inside _ _ _ c.loop-x.invariant.0)
 
 pub overflow_add-to-else-x : goal.overflow_add-to-else-x
 overflow_add-to-else-x c = record { fits = after_small _ _ _ c.loop-x.invariant.0 _ _ (copied-within _ _ _ _ c.emit_bytes-n.ensures.count c.emit_bytes-n.ensures.part) c.well_formed.1.1.1.1.1.1.1.1.1.1.1.1.1.1.1.1.1.0.0 _ refl }
@@ -55,4 +33,4 @@ pub loop-x-smaller : goal.loop-x-smaller
 loop-x-smaller c = search next-less
 
 pub loop-x-preserved : goal.loop-x-preserved
-loop-x-preserved c = (within_on _ _ _ c.loop-x.invariant.0 _ _ (copied-within _ _ _ _ c.emit_bytes-n.ensures.count c.emit_bytes-n.ensures.part) _ refl, λ x u lists ps p q h k b g. writing-terminator _ _ _ _ _ _ _ _ x u lists ps p _ _ _ _ (c.loop-x.invariant.1 x u lists ps p q h k b g) _ c.next_kept.ensures c.in-Some.x c.in-Some.is c.if-x.false _ _ (λ _ _. copied_on _ _ _ c.loop-x.invariant.0 _ _ _ c.emit_bytes-n.ensures.count c.emit_bytes-n.ensures.part _ c.bytes_between.ensures))
+loop-x-preserved c = (within_on _ _ _ c.loop-x.invariant.0 _ _ (copied-within _ _ _ _ c.emit_bytes-n.ensures.count c.emit_bytes-n.ensures.part) _ refl, λ x u lists ps p q h k b g. writing-terminator _ _ _ _ _ _ _ _ x u lists ps p _ _ _ _ (c.loop-x.invariant.1 x u lists ps p q h k b g) _ c.next_kept.ensures c.in-Item.x c.in-Item.is c.if-x.false _ _ (λ _ _. copied_on _ _ _ c.loop-x.invariant.0 _ _ _ c.emit_bytes-n.ensures.count c.emit_bytes-n.ensures.part _ c.bytes_between.ensures))

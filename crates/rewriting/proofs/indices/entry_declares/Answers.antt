@@ -1,10 +1,7 @@
 -- `entry_declares`: what all attributes declare is what those from here on do. Assumes nothing.
-use mathlib.Core.Path.{refl}
 use Rattle.rewriting.proofs.ListPass.IndexTurns.{attributes-less, declares-end, declares-yes, declares-form, declares-name}
 use Rattle.rewriting.proofs.indices.entry_declares.Goals as goal
-
-pub loop-a-init : goal.loop-a-init
-loop-a-init c = refl
+use Rattle.rewriting.proofs.indices.entry_declares.Goals.{else-a-name-via-then-a-name+else-a-eq-DW_FORM_sec_offset, else-a-name-via-else-a-name}
 
 pub returns-in_default : goal.returns-in_default
 returns-in_default c = search declares-end
@@ -12,14 +9,11 @@ returns-in_default c = search declares-end
 pub returns-then-a-eq-DW_FORM_sec_offset : goal.returns-then-a-eq-DW_FORM_sec_offset
 returns-then-a-eq-DW_FORM_sec_offset c = search declares-yes
 
-pub loop-a-smaller-else-a-eq-DW_FORM_sec_offset : goal.loop-a-smaller-else-a-eq-DW_FORM_sec_offset
-loop-a-smaller-else-a-eq-DW_FORM_sec_offset c = search attributes-less
-
-pub loop-a-preserved-else-a-eq-DW_FORM_sec_offset : goal.loop-a-preserved-else-a-eq-DW_FORM_sec_offset
-loop-a-preserved-else-a-eq-DW_FORM_sec_offset c = search declares-form
-
 pub loop-a-smaller : goal.loop-a-smaller
 loop-a-smaller c = search attributes-less
 
 pub loop-a-preserved : goal.loop-a-preserved
-loop-a-preserved c = search declares-name
+loop-a-preserved c = elim c.else-a-name.branch [
+  | else-a-name-via-then-a-name+else-a-eq-DW_FORM_sec_offset w ↦ search declares-form
+  | else-a-name-via-else-a-name w ↦ search declares-name
+]

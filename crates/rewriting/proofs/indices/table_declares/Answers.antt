@@ -14,8 +14,8 @@ loop-d-smaller c = search table-less
 pub loop-d-preserved : goal.loop-d-preserved
 loop-d-preserved c = search table-no
 
-pub returns-in-Some-declaration : goal.returns-in-Some-declaration
-returns-in-Some-declaration c = search table-last
+pub returns-in-Last : goal.returns-in-Last
+returns-in-Last c = search table-last
 
-pub returns-in-None : goal.returns-in-None
-returns-in-None c = search table-bad
+pub returns-in-Unreadable : goal.returns-in-Unreadable
+returns-in-Unreadable c = search table-bad

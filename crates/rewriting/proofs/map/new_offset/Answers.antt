@@ -1,15 +1,7 @@
 -- `new_offset` meets its contract.
-use mathlib.Core.Path.{sym, ◌∙◌}
-use Rattle.rewriting.proofs.MapPass.Places.{looked-there, looked-other, looked-beyond}
-use borrow.Author.Tests.{eqb-true, eqb-false}
+use mathlib.Core.Path.{◌∙◌}
+use Rattle.rewriting.proofs.MapPass.Places.{looked-is}
 use Rattle.rewriting.proofs.map.new_offset.Goals as goal
-use Rattle.rewriting.proofs.map.new_offset.Goals.{else-i-places-via-then-i-places+else-has_old, else-i-places-via-else-i-places}
-
-pub returns-then-has_old : goal.returns-then-has_old
-returns-then-has_old c = looked-there _ _ _ _ c.before-i.ensures _ c.if-i-places.true (eqb-true _ _ (sym c.has_old.ensures ∙ c.if-has_old.true)) c.new_at.ensures
 
 pub returns : goal.returns
-returns c = elim c.else-i-places.branch [
-  else-i-places-via-then-i-places+else-has_old w ↦ looked-other _ _ _ _ c.before-i.ensures w.if-i-places.true (eqb-false _ _ (sym w.has_old.ensures ∙ w.if-has_old.false))
-  | else-i-places-via-else-i-places w ↦ looked-beyond _ _ _ _ c.before-i.ensures w.if-i-places.false
-]
+returns c = c.found_at.ensures ∙ looked-is _ _ _ _ c.before-i.ensures

@@ -4,8 +4,5 @@ use Rattle.rewriting.proofs.WritePass.Putting.{put-room}
 use Rattle.rewriting.proofs.MapPass.Places.{place-put}
 use Rattle.rewriting.proofs.map.put_place.Goals as goal
 
-pub returns-then-i-most_places : goal.returns-then-i-most_places
-returns-then-i-most_places c = λ ps h e r. absurd (omega arith)
-
 pub returns : goal.returns
 returns c = λ ps h e r. place-put ps _ _ _ _ _ _ _ _ r (put-room _ _ _ _ _ c.put_big_endian.ensures) (put-room _ _ _ _ _ c.put_big_endian-2.ensures) (put-room _ _ _ _ _ c.put_big_endian-3.ensures) h e (omega arith) (omega arith) (omega arith)

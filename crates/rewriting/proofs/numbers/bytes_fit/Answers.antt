@@ -11,6 +11,6 @@ returns-then-width-room c = c.fits.ensures ∙ sym (bytes_rest _ _ _ (omega arit
 pub returns-else-width-room : goal.returns-else-width-room
 returns-else-width-room c =
     elim c.if-width-le8.branch [
-      then-width-le8 w ↦ cc (bytes-beyond c.args.value c.args.width c.args.room (omega arith))
+      | then-width-le8 w ↦ cc (bytes-beyond c.args.value c.args.width c.args.room (omega arith))
       | else-width-le8 w ↦ cc (bytes-over c.args.value c.args.width c.args.room (omega arith))
     ]

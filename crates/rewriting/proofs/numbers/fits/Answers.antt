@@ -1,13 +1,7 @@
 -- `fits` meets its contract: each turn takes a digit away.
 use native.Mathlib.Omega.{arith}
-use Rattle.rewriting.proofs.WritePass.Putting.{shortened-start, shortened-more, shortened-done}
+use Rattle.rewriting.proofs.WritePass.Putting.{shortened-more}
 use Rattle.rewriting.proofs.numbers.fits.Goals as goal
-
-pub loop-i-init : goal.loop-i-init
-loop-i-init c = shortened-start _ _ _
 
 pub loop-i-preserved : goal.loop-i-preserved
 loop-i-preserved c = shortened-more _ _ _ _ _ (omega arith) (omega arith) c.loop-i.invariant
-
-pub returns : goal.returns
-returns c = shortened-done _ _ _ _ _ (omega arith) c.loop-i.invariant

@@ -11,9 +11,9 @@ returns-then-width-room c = c.fits.ensures ∙ sym (groups-rest _ _ _ (λ e. ome
 pub returns-else-width-room : goal.returns-else-width-room
 returns-else-width-room c =
     elim c.if-width-le10.branch [
-      then-width-le10 w ↦ cc (groups-beyond c.args.value c.args.width c.args.room (omega arith))
+      | then-width-le10 w ↦ cc (groups-beyond c.args.value c.args.width c.args.room (omega arith))
       | else-width-le10 w ↦ elim c.if-width-gt0.branch [
-          then-width-gt0 u ↦ cc (groups-over c.args.value c.args.width c.args.room (omega arith))
-          | else-width-gt0 u ↦ cc (groups_none c.args.value c.args.width c.args.room (omega arith))
-        ]
+        | then-width-gt0 u ↦ cc (groups-over c.args.value c.args.width c.args.room (omega arith))
+        | else-width-gt0 u ↦ cc (groups_none c.args.value c.args.width c.args.room (omega arith))
+      ]
     ]

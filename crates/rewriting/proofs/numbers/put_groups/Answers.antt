@@ -2,7 +2,7 @@
 use mathlib.Core.Path.{sym, ◌∙◌}
 use native.Mathlib.Omega.{arith}
 use Rattle.rewriting.proofs.WritePass.Putting.{refused, accepted, fit-some}
-use Rattle.rewriting.proofs.WritePass.Putting.{grouping-start, grouping-more, grouping-low, grouping-room, grouping-done}
+use Rattle.rewriting.proofs.WritePass.Putting.{grouping-start, grouping-more, grouping-done}
 use Rattle.rewriting.proofs.numbers.put_groups.Goals as goal
 
 pub returns-then-not-groups_fit : goal.returns-then-not-groups_fit
@@ -14,17 +14,8 @@ overflow_sub-last c = omega (arith, fit-some _ _ _ (sym c.groups_fit.ensures ∙
 pub loop-i-init : goal.loop-i-init
 loop-i-init c = grouping-start _ _ _ (sym c.groups_fit.ensures ∙ c.if-not-groups_fit.false)
 
-pub bounds-out-i : goal.bounds-out-i
-bounds-out-i c = grouping-room _ _ _ _ _ _ c.loop-i.invariant
-
 pub loop-i-preserved : goal.loop-i-preserved
 loop-i-preserved c = grouping-more _ _ _ _ _ _ (omega arith) c.loop-i.invariant
-
-pub overflow_cast-out-2 : goal.overflow_cast-out-2
-overflow_cast-out-2 c = omega (arith, grouping-low _ _ _ _ _ _ (omega arith) c.loop-i.invariant)
-
-pub bounds-out-last : goal.bounds-out-last
-bounds-out-last c = omega (arith, c.loop-i.invariant.room)
 
 pub returns : goal.returns
 returns c = let f = sym c.groups_fit.ensures ∙ c.if-not-groups_fit.false in

@@ -7,12 +7,6 @@ use Rattle.rewriting.proofs.rows.row_number.Goals as goal
 pub returns-then-i-table : goal.returns-then-i-table
 returns-then-i-table c = no_row _ _ _ _ _ c.if-i-table.true
 
-pub overflow_mul-row : goal.overflow_mul-row
-overflow_mul-row c = omega (arith, row_inside _ _ _ c.if-i-table.false (omega arith))
-
-pub overflow_add-row : goal.overflow_add-row
-overflow_add-row c = omega (arith, row_inside _ _ _ c.if-i-table.false (omega arith))
-
 pub returns : goal.returns
 returns c = there-row _ _ _ _ _ _ c.if-i-table.false
     (big-endian-there _ _ _ _ c.big_endian_at.ensures (omega arith) (omega (arith, row_inside _ _ _ c.if-i-table.false (omega arith))))

@@ -2,7 +2,7 @@
 use mathlib.Core.Path.{refl, sym, ◌∙◌}
 use native.Mathlib.Omega.{arith}
 use Rattle.rewriting.proofs.MapPass.Places.{old-there, new-there, depth-there, found-new, other_none, beyond-none, sibling-to}
-use Rattle.rewriting.proofs.MapPass.Bounded.{Unfound, seeking-start, seeking-skip, seeking-here, seeking-more, seeking-done}
+use Rattle.rewriting.proofs.MapPass.Bounded.{seeking-start, seeking-skip, seeking-here, seeking-more, seeking-done}
 use borrow.Author.Tests.{eqb-true, eqb-false}
 use Rattle.rewriting.proofs.siblings.sibling_offset.Goals as goal
 use Rattle.rewriting.proofs.siblings.sibling_offset.Goals.{else-start-places-via-then-start-places+else-has_old, else-start-places-via-else-start-places}
@@ -13,7 +13,7 @@ returns-then-has_old c = λ ps h e b. sibling-to _ _ _ _ (found-new ps _ _ _ _ _
 pub loop-i-init : goal.loop-i-init
 loop-i-init c = seeking-start _ _ _ _ _ _ (λ ps h e. (
   elim c.else-start-places.branch [
-    else-start-places-via-then-start-places+else-has_old w ↦ other_none ps _ _ _ _ _ h e w.if-start-places.true (old-there _ _ _ refl) (c.hinted_place-start.ensures ps h e) (eqb-false _ _ (sym w.has_old.ensures ∙ w.if-has_old.false))
+    | else-start-places-via-then-start-places+else-has_old w ↦ other_none ps _ _ _ _ _ h e w.if-start-places.true (old-there _ _ _ refl) (c.hinted_place-start.ensures ps h e) (eqb-false _ _ (sym w.has_old.ensures ∙ w.if-has_old.false))
     | else-start-places-via-else-start-places w ↦ beyond-none ps _ _ _ _ 0 h e w.if-start-places.false (c.hinted_place-start.ensures ps h e)
   ],
   c.hinted_place-start.ensures ps h e,
