@@ -7,7 +7,7 @@ ghost use Rattle.rewriting.specs.Places.{Place, sibling_of};
 ghost use Rattle.rewriting.specs.Inner.Written.{MapHeld, as_mapped};
 ghost use Rattle.rewriting.specs.Inner.Bounds.{AsDeep, BoundsFrom, Bounds};
 
-use crate::map::{UnitOffset, depth_at, has_old, hinted_place, new_at};
+use crate::map::{depth_at, has_old, hinted_place, new_at};
 use readers::offsets::UnitOffset;
 
 // A number of the table; 0 where there is none.

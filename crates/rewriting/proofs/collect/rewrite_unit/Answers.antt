@@ -1,12 +1,14 @@
 -- `rewrite_unit` makes the lists, and writes where something is dead. Assumes nothing.
+use mathlib.Core.Path.{◌∙◌}
+use Rattle.readers.proofs.Refusing.{refused-none, read_some}
 use Rattle.rewriting.proofs.Whole.UnitAnswers.{short-unit, untouched-unit, written-unit}
 use Rattle.rewriting.proofs.collect.rewrite_unit.Goals as goal
 
 pub returns-then-kept-entries : goal.returns-then-kept-entries
-returns-then-kept-entries c = untouched-unit _ _ _ _ _ _ _ _ _ _ _ _ _ _ _ _ c.unit_part-unit.ensures _ c.fill_ends.ensures _ _ _ _ c.index_lists.ensures _ _ _ c.in-Made.is c.if-kept-entries.true
+returns-then-kept-entries c = untouched-unit _ _ _ _ _ _ _ _ _ _ _ _ _ _ _ _ c.unit_part-unit.ensures _ c.fill_ends.ensures _ _ _ _ c.index_lists.ensures _ _ _ (read_some _ _ _ _ c.ok_or.ensures.value c.in_ok-ranges.was) c.if-kept-entries.true
 
-pub returns-in-Short : goal.returns-in-Short
-returns-in-Short c = short-unit _ _ _ _ _ _ _ _ _ _ _ _ _ _ _ _ c.unit_part-unit.ensures _ c.fill_ends.ensures _ _ _ _ c.index_lists.ensures c.in-Short.is
+pub returns-in_err-ranges : goal.returns-in_err-ranges
+returns-in_err-ranges c = (refused-none _ _ _ _ _ c.ok_or.ensures.value c.in_err-ranges.was c.from_residual.ensures.1).1 ∙ short-unit _ _ _ _ _ _ _ _ _ _ _ _ _ _ _ _ c.unit_part-unit.ensures _ c.fill_ends.ensures _ _ _ _ c.index_lists.ensures (refused-none _ _ _ _ _ c.ok_or.ensures.value c.in_err-ranges.was c.from_residual.ensures.1).0
 
 pub returns-else-kept-entries : goal.returns-else-kept-entries
-returns-else-kept-entries c = written-unit _ _ _ _ _ _ _ _ _ _ _ _ _ _ _ _ c.unit_part-unit.ensures _ c.fill_ends.ensures _ _ _ _ c.index_lists.ensures _ _ _ c.in-Made.is c.if-kept-entries.false _ _ _ c.write_unit.ensures
+returns-else-kept-entries c = written-unit _ _ _ _ _ _ _ _ _ _ _ _ _ _ _ _ c.unit_part-unit.ensures _ c.fill_ends.ensures _ _ _ _ c.index_lists.ensures _ _ _ (read_some _ _ _ _ c.ok_or.ensures.value c.in_ok-ranges.was) c.if-kept-entries.false _ _ _ c.write_unit.ensures

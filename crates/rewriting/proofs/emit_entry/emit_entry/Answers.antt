@@ -1,5 +1,6 @@
 -- `emit_entry`: the invariant is that the answer from here on is that of all attributes. Assumes nothing.
-use mathlib.Core.Path.{refl, ap}
+use Rattle.readers.proofs.Refusing.{passed-on}
+use mathlib.Core.Path.{refl, ap, ◌∙◌}
 use Rattle.readers.specs.declared.cursor.Cursor.{Cursor}
 use Rattle.rewriting.proofs.WritePass.Emissions.{from_start, within-self, within-trans, within_on, within-stop, copied-front, copied-within, copied_on, emits-on, size_small, after_small, onward-to, onward-no}
 use Rattle.rewriting.proofs.WritePass.EntryEmits.{entering-begin, entry_done, entering-less, entering-end, entering-refused, entering-on}
@@ -25,17 +26,17 @@ loop-past-preserved-in-Copy c = (
       (copied_on _ _ _ c.loop-past.invariant.0 _ _ _ c.emit_bytes-n.ensures.count c.emit_bytes-n.ensures.part _ c.bytes_between-in-Copy.ensures),
 )
 
-pub returns-in-Refused : goal.returns-in-Refused
-returns-in-Refused c = record {
+pub returns-in_err-to : goal.returns-in_err-to
+returns-in_err-to c = passed-on _ _ c.from_residual.ensures.1 ∙ record {
   within = within-trans (copied-within _ _ _ _ c.emit_bytes-to.ensures.count c.emit_bytes-to.ensures.part) (within-stop _ _ _ c.loop-past.invariant.0 _ _ c.emit_attribute.ensures.within _);
-  bytes = λ lists ps look x rs rest m n b lent step sp va d. from_start (entry_done _ _ look _ _ x step rs rest d _ _ (ap (λ (k : Cursor). k.at) sp) (ap (λ (k : Cursor). k.at) va) lists ps _ _ _ _ _ (λ _ _. copied-front _ _ _ _ c.emit_bytes-to.ensures.count c.emit_bytes-to.ensures.part _ c.bytes_between.ensures) _ _ (λ reads after i k. entering-refused lists ps _ _ _ _ reads _ _ _ _ _ _ (c.loop-past.invariant.1 lists ps reads after m n b lent i k) _ (plan-more _ _ c.next_plan.ensures _ c.in-Change.is) _ refl _ _ (λ one mid j v e. emits-on _ _ _ c.loop-past.invariant.0 (c.emit_attribute.ensures.bytes lists ps one mid m n b lent j v e)) _ (onward-no _ _ _ c.in-Refused.is)));
+  bytes = λ lists ps look x rs rest m n b lent step sp va d. from_start (entry_done _ _ look _ _ x step rs rest d _ _ (ap (λ (k : Cursor). k.at) sp) (ap (λ (k : Cursor). k.at) va) lists ps _ _ _ _ _ (λ _ _. copied-front _ _ _ _ c.emit_bytes-to.ensures.count c.emit_bytes-to.ensures.part _ c.bytes_between.ensures) _ _ (λ reads after i k. entering-refused lists ps _ _ _ _ reads _ _ _ _ _ _ (c.loop-past.invariant.1 lists ps reads after m n b lent i k) _ (plan-more _ _ c.next_plan.ensures _ c.in-Change.is) _ refl _ _ (λ one mid j v e. emits-on _ _ _ c.loop-past.invariant.0 (c.emit_attribute.ensures.bytes lists ps one mid m n b lent j v e)) _ (onward-no _ _ _ c.in_err-to.was)));
 }
 
 pub loop-past-smaller : goal.loop-past-smaller
 loop-past-smaller c = entering-less _ _ _ _ _ _ _ (plan-more _ _ c.next_plan.ensures _ c.in-Change.is) refl
 
 pub loop-past-preserved : goal.loop-past-preserved
-loop-past-preserved c = (within_on _ _ _ c.loop-past.invariant.0 _ _ c.emit_attribute.ensures.within _ c.in-To.is, λ lists ps reads after m n b lent i k. entering-on lists ps _ _ _ _ reads _ _ _ _ _ _ (c.loop-past.invariant.1 lists ps reads after m n b lent i k) _ (plan-more _ _ c.next_plan.ensures _ c.in-Change.is) _ refl _ _ (λ one mid j v e. emits-on _ _ _ c.loop-past.invariant.0 (c.emit_attribute.ensures.bytes lists ps one mid m n b lent j v e)) _ (onward-to _ _ _ c.in-To.is))
+loop-past-preserved c = (within_on _ _ _ c.loop-past.invariant.0 _ _ c.emit_attribute.ensures.within _ c.in_ok-to.was, λ lists ps reads after m n b lent i k. entering-on lists ps _ _ _ _ reads _ _ _ _ _ _ (c.loop-past.invariant.1 lists ps reads after m n b lent i k) _ (plan-more _ _ c.next_plan.ensures _ c.in-Change.is) _ refl _ _ (λ one mid j v e. emits-on _ _ _ c.loop-past.invariant.0 (c.emit_attribute.ensures.bytes lists ps one mid m n b lent j v e)) _ (onward-to _ _ _ c.in_ok-to.was))
 
 pub returns-in-Over : goal.returns-in-Over
 returns-in-Over c = record {

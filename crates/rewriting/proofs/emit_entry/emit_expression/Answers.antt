@@ -1,5 +1,6 @@
 -- `emit_expression`: the invariant is that the answer from here on is that of the whole. Assumes nothing.
-use mathlib.Core.Path.{refl}
+use Rattle.readers.proofs.Refusing.{passed-on}
+use mathlib.Core.Path.{refl, ◌∙◌}
 use native.Mathlib.Omega.{arith}
 use Rattle.rewriting.proofs.MapPass.Exact.{are-bytes}
 use Rattle.marking.proofs.NextOffsets.{next-less}
@@ -21,13 +22,13 @@ returns-in_default c = record {
 }
 
 pub slice_bounds-emit_bytes-count-in-loop-r : goal.slice_bounds-emit_bytes-count-in-loop-r
-slice_bounds-emit_bytes-count-in-loop-r c = omega (arith, c.loop-r.invariant.1, (next-placed _ _ _ _ c.next_reference.ensures _ c.in-Reference.is).0, (next-placed _ _ _ _ c.next_reference.ensures _ c.in-Reference.is).1, (next-placed _ _ _ _ c.next_reference.ensures _ c.in-Reference.is).2)
+slice_bounds-emit_bytes-count-in-loop-r c = omega (arith, c.loop-r.invariant.1, (next-placed _ _ _ _ c.next_reference.ensures _ c.in-Some.is).0, (next-placed _ _ _ _ c.next_reference.ensures _ c.in-Some.is).1, (next-placed _ _ _ _ c.next_reference.ensures _ c.in-Some.is).2)
 
 pub slice_bounds-emit_bytes-start-in-loop-r : goal.slice_bounds-emit_bytes-start-in-loop-r
-slice_bounds-emit_bytes-start-in-loop-r c = omega (arith, c.loop-r.invariant.1, (next-placed _ _ _ _ c.next_reference.ensures _ c.in-Reference.is).0, (next-placed _ _ _ _ c.next_reference.ensures _ c.in-Reference.is).1, (next-placed _ _ _ _ c.next_reference.ensures _ c.in-Reference.is).2)
+slice_bounds-emit_bytes-start-in-loop-r c = omega (arith, c.loop-r.invariant.1, (next-placed _ _ _ _ c.next_reference.ensures _ c.in-Some.is).0, (next-placed _ _ _ _ c.next_reference.ensures _ c.in-Some.is).1, (next-placed _ _ _ _ c.next_reference.ensures _ c.in-Some.is).2)
 
 pub slice_bounds-emit_bytes-end-in-loop-r : goal.slice_bounds-emit_bytes-end-in-loop-r
-slice_bounds-emit_bytes-end-in-loop-r c = omega (arith, c.loop-r.invariant.1, (next-placed _ _ _ _ c.next_reference.ensures _ c.in-Reference.is).0, (next-placed _ _ _ _ c.next_reference.ensures _ c.in-Reference.is).1, (next-placed _ _ _ _ c.next_reference.ensures _ c.in-Reference.is).2)
+slice_bounds-emit_bytes-end-in-loop-r c = omega (arith, c.loop-r.invariant.1, (next-placed _ _ _ _ c.next_reference.ensures _ c.in-Some.is).0, (next-placed _ _ _ _ c.next_reference.ensures _ c.in-Some.is).1, (next-placed _ _ _ _ c.next_reference.ensures _ c.in-Some.is).2)
 
 pub overflow_add-to : goal.overflow_add-to
 overflow_add-to c = record { fits = after_small _ _ _ c.loop-r.invariant.0 _ _ (copied-within _ _ _ _ c.emit_bytes-n-in-loop-r.ensures.count c.emit_bytes-n-in-loop-r.ensures.part) c.well_formed.1.1.1.1.0.0 _ refl }
@@ -38,20 +39,20 @@ slice_bounds-emit_offset-count c = omega (arith, inside _ _ _ (within_on _ _ _ c
 pub slice_bounds-emit_offset-start : goal.slice_bounds-emit_offset-start
 slice_bounds-emit_offset-start c = omega (arith, inside _ _ _ (within_on _ _ _ c.loop-r.invariant.0 _ _ (copied-within _ _ _ _ c.emit_bytes-n-in-loop-r.ensures.count c.emit_bytes-n-in-loop-r.ensures.part) _ refl))
 
-pub overflow_add-to-in-To : goal.overflow_add-to-in-To
-overflow_add-to-in-To c = record { fits = after_small _ _ _ (within_on _ _ _ c.loop-r.invariant.0 _ _ (copied-within _ _ _ _ c.emit_bytes-n-in-loop-r.ensures.count c.emit_bytes-n-in-loop-r.ensures.part) _ refl) _ _ c.emit_offset.ensures.within c.well_formed.1.1.1.1.0.0 _ c.in-To.is }
+pub overflow_add-to-in_ok-to : goal.overflow_add-to-in_ok-to
+overflow_add-to-in_ok-to c = record { fits = after_small _ _ _ (within_on _ _ _ c.loop-r.invariant.0 _ _ (copied-within _ _ _ _ c.emit_bytes-n-in-loop-r.ensures.count c.emit_bytes-n-in-loop-r.ensures.part) _ refl) _ _ c.emit_offset.ensures.within c.well_formed.1.1.1.1.0.0 _ c.in_ok-to.was }
 
-pub returns-in-Refused : goal.returns-in-Refused
-returns-in-Refused c = record {
+pub returns-in_err-to : goal.returns-in_err-to
+returns-in_err-to c = passed-on _ _ c.from_residual.ensures.1 ∙ record {
   within = within-stop _ _ _ (within_on _ _ _ c.loop-r.invariant.0 _ _ (copied-within _ _ _ _ c.emit_bytes-n-in-loop-r.ensures.count c.emit_bytes-n-in-loop-r.ensures.part) _ refl) _ _ c.emit_offset.ensures.within _;
-  bytes = λ lists ps depth pieces h p q. from_start (going-refused lists ps depth pieces _ _ _ _ _ _ _ _ (c.loop-r.invariant.3 lists ps depth pieces h p q) _ c.next_reference.ensures _ c.in-Reference.is _ _ (λ _ _. copied_on _ _ _ c.loop-r.invariant.0 _ _ _ c.emit_bytes-n-in-loop-r.ensures.count c.emit_bytes-n-in-loop-r.ensures.part _ (between-whole _ _ _)) _ (c.hinted_offset.ensures ps h p) _ _ (λ o v m w. emits-on _ _ _ (within_on _ _ _ c.loop-r.invariant.0 _ _ (copied-within _ _ _ _ c.emit_bytes-n-in-loop-r.ensures.count c.emit_bytes-n-in-loop-r.ensures.part) _ refl) (c.emit_offset.ensures.bytes o v m w)) _ (onward-no _ _ _ c.in-Refused.is));
+  bytes = λ lists ps depth pieces h p q. from_start (going-refused lists ps depth pieces _ _ _ _ _ _ _ _ (c.loop-r.invariant.3 lists ps depth pieces h p q) _ c.next_reference.ensures _ c.in-Some.is _ _ (λ _ _. copied_on _ _ _ c.loop-r.invariant.0 _ _ _ c.emit_bytes-n-in-loop-r.ensures.count c.emit_bytes-n-in-loop-r.ensures.part _ (between-whole _ _ _)) _ (c.hinted_offset.ensures ps h p) _ _ (λ o v m w. emits-on _ _ _ (within_on _ _ _ c.loop-r.invariant.0 _ _ (copied-within _ _ _ _ c.emit_bytes-n-in-loop-r.ensures.count c.emit_bytes-n-in-loop-r.ensures.part) _ refl) (c.emit_offset.ensures.bytes o v m w)) _ (onward-no _ _ _ c.in_err-to.was));
 }
 
 pub overflow_add-copied : goal.overflow_add-copied
-overflow_add-copied c = record { fits = next_small _ _ _ _ c.next_reference.ensures _ c.in-Reference.is c.well_formed.0.0 }
+overflow_add-copied c = record { fits = next_small _ _ _ _ c.next_reference.ensures _ c.in-Some.is c.well_formed.0.0 }
 
 pub loop-r-smaller : goal.loop-r-smaller
 loop-r-smaller c = search next-less
 
 pub loop-r-preserved : goal.loop-r-preserved
-loop-r-preserved c = (within_on _ _ _ (within_on _ _ _ c.loop-r.invariant.0 _ _ (copied-within _ _ _ _ c.emit_bytes-n-in-loop-r.ensures.count c.emit_bytes-n-in-loop-r.ensures.part) _ refl) _ _ c.emit_offset.ensures.within _ c.in-To.is, (next-placed _ _ _ _ c.next_reference.ensures _ c.in-Reference.is).1, (next-placed _ _ _ _ c.next_reference.ensures _ c.in-Reference.is).2, λ lists ps depth pieces h p q. going_on lists ps depth pieces _ _ _ _ _ _ _ _ (c.loop-r.invariant.3 lists ps depth pieces h p q) _ c.next_reference.ensures _ c.in-Reference.is _ _ (λ _ _. copied_on _ _ _ c.loop-r.invariant.0 _ _ _ c.emit_bytes-n-in-loop-r.ensures.count c.emit_bytes-n-in-loop-r.ensures.part _ (between-whole _ _ _)) _ (c.hinted_offset.ensures ps h p) _ _ (λ o v m w. emits-on _ _ _ (within_on _ _ _ c.loop-r.invariant.0 _ _ (copied-within _ _ _ _ c.emit_bytes-n-in-loop-r.ensures.count c.emit_bytes-n-in-loop-r.ensures.part) _ refl) (c.emit_offset.ensures.bytes o v m w)) _ (onward-to _ _ _ c.in-To.is) _ (λ _. refl))
+loop-r-preserved c = (within_on _ _ _ (within_on _ _ _ c.loop-r.invariant.0 _ _ (copied-within _ _ _ _ c.emit_bytes-n-in-loop-r.ensures.count c.emit_bytes-n-in-loop-r.ensures.part) _ refl) _ _ c.emit_offset.ensures.within _ c.in_ok-to.was, (next-placed _ _ _ _ c.next_reference.ensures _ c.in-Some.is).1, (next-placed _ _ _ _ c.next_reference.ensures _ c.in-Some.is).2, λ lists ps depth pieces h p q. going_on lists ps depth pieces _ _ _ _ _ _ _ _ (c.loop-r.invariant.3 lists ps depth pieces h p q) _ c.next_reference.ensures _ c.in-Some.is _ _ (λ _ _. copied_on _ _ _ c.loop-r.invariant.0 _ _ _ c.emit_bytes-n-in-loop-r.ensures.count c.emit_bytes-n-in-loop-r.ensures.part _ (between-whole _ _ _)) _ (c.hinted_offset.ensures ps h p) _ _ (λ o v m w. emits-on _ _ _ (within_on _ _ _ c.loop-r.invariant.0 _ _ (copied-within _ _ _ _ c.emit_bytes-n-in-loop-r.ensures.count c.emit_bytes-n-in-loop-r.ensures.part) _ refl) (c.emit_offset.ensures.bytes o v m w)) _ (onward-to _ _ _ c.in_ok-to.was) _ (λ _. refl))

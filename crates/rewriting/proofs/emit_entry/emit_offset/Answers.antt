@@ -1,16 +1,17 @@
 -- `emit_offset`: a new offset, or none. Assumes nothing.
-use mathlib.Core.Path.{refl}
+use Rattle.readers.proofs.Refusing.{refused-none, read_some}
+use mathlib.Core.Path.{refl, ◌∙◌}
 use Rattle.rewriting.proofs.WritePass.Emissions.{within-no, offset-some, offset-none}
 use Rattle.rewriting.proofs.emit_entry.emit_offset.Goals as goal
 
-pub returns-in-To : goal.returns-in-To
-returns-in-To c = record {
+pub returns-in_ok-value : goal.returns-in_ok-value
+returns-in_ok-value c = record {
   within = c.emit_number.ensures.within;
-  bytes = offset-some _ _ _ _ _ _ c.in-To.is _ _ c.emit_number.ensures.bytes;
+  bytes = offset-some _ _ _ _ _ _ (read_some _ _ _ _ c.ok_or.ensures.value c.in_ok-value.was) _ _ c.emit_number.ensures.bytes;
 }
 
-pub returns-in-Nothing : goal.returns-in-Nothing
-returns-in-Nothing c = record {
+pub returns-in_err-value : goal.returns-in_err-value
+returns-in_err-value c = (refused-none _ _ _ _ _ c.ok_or.ensures.value c.in_err-value.was c.from_residual.ensures.1).1 ∙ record {
   within = within-no _ _ _ refl;
-  bytes = offset-none _ _ _ _ _ c.in-Nothing.is;
+  bytes = offset-none _ _ _ _ _ (refused-none _ _ _ _ _ c.ok_or.ensures.value c.in_err-value.was c.from_residual.ensures.1).0;
 }

@@ -2,8 +2,8 @@
 use Rattle.rewriting.proofs.WritePass.Emissions.{index-rank, index-self}
 use Rattle.rewriting.proofs.emit_entry.new_index.Goals as goal
 
-pub returns-in-Present : goal.returns-in-Present
-returns-in-Present c = index-rank _ _ _ _ c.in-Present.is _ c.hinted_rank.ensures
+pub returns-in-Some : goal.returns-in-Some
+returns-in-Some c = index-rank _ _ _ _ c.in-Some.is _ c.hinted_rank.ensures
 
-pub returns-in-Absent : goal.returns-in-Absent
-returns-in-Absent c = index-self _ _ _ c.in-Absent.is
+pub returns-in-None : goal.returns-in-None
+returns-in-None c = index-self _ _ _ c.in-None.is

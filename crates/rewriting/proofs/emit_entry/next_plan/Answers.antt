@@ -2,8 +2,8 @@
 use Rattle.rewriting.proofs.WritePass.Plans.{plan-last, plan-bad, plan-none, plan-change, plan-nowhere, plan-copy}
 use Rattle.rewriting.proofs.emit_entry.next_plan.Goals as goal
 
-pub returns-in_default : goal.returns-in_default
-returns-in_default c = search plan-nowhere
+pub returns-in_default-past_attribute : goal.returns-in_default-past_attribute
+returns-in_default-past_attribute c = search plan-nowhere
 
 pub returns-then-copies : goal.returns-then-copies
 returns-then-copies c = search plan-copy
@@ -11,11 +11,11 @@ returns-then-copies c = search plan-copy
 pub returns-in_default-attribute : goal.returns-in_default-attribute
 returns-in_default-attribute c = search plan-none
 
-pub returns-in-Read : goal.returns-in-Read
-returns-in-Read c = search plan-change
+pub returns-in-Some-attribute : goal.returns-in-Some-attribute
+returns-in-Some-attribute c = search plan-change
 
 pub returns-in-Last : goal.returns-in-Last
 returns-in-Last c = search plan-last
 
-pub returns-in-Unreadable : goal.returns-in-Unreadable
-returns-in-Unreadable c = search plan-bad
+pub returns-in_default : goal.returns-in_default
+returns-in_default c = search plan-bad

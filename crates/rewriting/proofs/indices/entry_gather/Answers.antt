@@ -21,14 +21,14 @@ pub loop-a-preserved : goal.loop-a-preserved
 loop-a-preserved c = (
   (
     c.put_by_kind-g.auto.range_list ∙ c.loop-a.invariant.0.0,
-    onward-more _ _ _ _ _ _ c.loop-a.invariant.0.1 _ _ (indices-more 0 _ _ _ _ _ _ c.next_attribute.ensures c.in-More.a c.in-More.is _ (λ name. c.list_of.ensures ∙ form-list name _)) _ _ c.put_by_kind-g.ensures.0,
+    onward-more _ _ _ _ _ _ c.loop-a.invariant.0.1 _ _ (indices-more 0 _ _ _ _ _ _ c.next_attribute.ensures c.in-Some.a c.in-Some.is _ (λ name. c.list_of.ensures ∙ form-list name _)) _ _ c.put_by_kind-g.ensures.0,
   ),
   (
     c.put_by_kind-g.auto.location_list ∙ c.loop-a.invariant.1.0,
-    onward-more _ _ _ _ _ _ c.loop-a.invariant.1.1 _ _ (indices-more 1 _ _ _ _ _ _ c.next_attribute.ensures c.in-More.a c.in-More.is _ (λ name. c.list_of.ensures ∙ form-list name _)) _ _ c.put_by_kind-g.ensures.1.0,
+    onward-more _ _ _ _ _ _ c.loop-a.invariant.1.1 _ _ (indices-more 1 _ _ _ _ _ _ c.next_attribute.ensures c.in-Some.a c.in-Some.is _ (λ name. c.list_of.ensures ∙ form-list name _)) _ _ c.put_by_kind-g.ensures.1.0,
   ),
   (
     c.put_by_kind-g.auto.string_list ∙ c.loop-a.invariant.2.0,
-    onward-more _ _ _ _ _ _ c.loop-a.invariant.2.1 _ _ (indices-more 2 _ _ _ _ _ _ c.next_attribute.ensures c.in-More.a c.in-More.is _ (λ name. c.list_of.ensures ∙ form-list name _)) _ _ c.put_by_kind-g.ensures.1.1,
+    onward-more _ _ _ _ _ _ c.loop-a.invariant.2.1 _ _ (indices-more 2 _ _ _ _ _ _ c.next_attribute.ensures c.in-Some.a c.in-Some.is _ (λ name. c.list_of.ensures ∙ form-list name _)) _ _ c.put_by_kind-g.ensures.1.1,
   ),
 )

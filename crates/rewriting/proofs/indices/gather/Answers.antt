@@ -17,21 +17,21 @@ returns-in_default c = (
 )
 
 pub loop-x-smaller-then-x : goal.loop-x-smaller-then-x
-loop-x-smaller-then-x c = collect-less _ _ _ _ 0 _ _ _ 0 _ _ c.next_kept.ensures c.in-Item.x c.in-Item.is
+loop-x-smaller-then-x c = collect-less _ _ _ _ 0 _ _ _ 0 _ _ c.next_kept.ensures c.in-Some.x c.in-Some.is
 
 pub loop-x-preserved-then-x : goal.loop-x-preserved-then-x
 loop-x-preserved-then-x c = (
-  collect-entry _ _ _ _ 0 _ _ _ _ _ _ c.next_kept.ensures _ _ _ c.loop-x.invariant.0 c.in-Item.x c.in-Item.is c.if-x.true _ _ c.entry_gather-g.auto.range_list c.entry_gather-g.ensures.0,
-  collect-entry _ _ _ _ 1 _ _ _ _ _ _ c.next_kept.ensures _ _ _ c.loop-x.invariant.1 c.in-Item.x c.in-Item.is c.if-x.true _ _ c.entry_gather-g.auto.location_list c.entry_gather-g.ensures.1.0,
-  collect-entry _ _ _ _ 2 _ _ _ _ _ _ c.next_kept.ensures _ _ _ c.loop-x.invariant.2 c.in-Item.x c.in-Item.is c.if-x.true _ _ c.entry_gather-g.auto.string_list c.entry_gather-g.ensures.1.1,
+  collect-entry _ _ _ _ 0 _ _ _ _ _ _ c.next_kept.ensures _ _ _ c.loop-x.invariant.0 c.in-Some.x c.in-Some.is c.if-x.true _ _ c.entry_gather-g.auto.range_list c.entry_gather-g.ensures.0,
+  collect-entry _ _ _ _ 1 _ _ _ _ _ _ c.next_kept.ensures _ _ _ c.loop-x.invariant.1 c.in-Some.x c.in-Some.is c.if-x.true _ _ c.entry_gather-g.auto.location_list c.entry_gather-g.ensures.1.0,
+  collect-entry _ _ _ _ 2 _ _ _ _ _ _ c.next_kept.ensures _ _ _ c.loop-x.invariant.2 c.in-Some.x c.in-Some.is c.if-x.true _ _ c.entry_gather-g.auto.string_list c.entry_gather-g.ensures.1.1,
 )
 
 pub loop-x-smaller : goal.loop-x-smaller
-loop-x-smaller c = collect-less _ _ _ _ 0 _ _ _ 0 _ _ c.next_kept.ensures c.in-Item.x c.in-Item.is
+loop-x-smaller c = collect-less _ _ _ _ 0 _ _ _ 0 _ _ c.next_kept.ensures c.in-Some.x c.in-Some.is
 
 pub loop-x-preserved : goal.loop-x-preserved
 loop-x-preserved c = (
-  collect-terminator _ _ _ _ 0 _ _ _ _ _ _ c.next_kept.ensures _ _ _ c.loop-x.invariant.0 c.in-Item.x c.in-Item.is c.if-x.false,
-  collect-terminator _ _ _ _ 1 _ _ _ _ _ _ c.next_kept.ensures _ _ _ c.loop-x.invariant.1 c.in-Item.x c.in-Item.is c.if-x.false,
-  collect-terminator _ _ _ _ 2 _ _ _ _ _ _ c.next_kept.ensures _ _ _ c.loop-x.invariant.2 c.in-Item.x c.in-Item.is c.if-x.false,
+  collect-terminator _ _ _ _ 0 _ _ _ _ _ _ c.next_kept.ensures _ _ _ c.loop-x.invariant.0 c.in-Some.x c.in-Some.is c.if-x.false,
+  collect-terminator _ _ _ _ 1 _ _ _ _ _ _ c.next_kept.ensures _ _ _ c.loop-x.invariant.1 c.in-Some.x c.in-Some.is c.if-x.false,
+  collect-terminator _ _ _ _ 2 _ _ _ _ _ _ c.next_kept.ensures _ _ _ c.loop-x.invariant.2 c.in-Some.x c.in-Some.is c.if-x.false,
 )

@@ -2,8 +2,8 @@
 use Rattle.rewriting.proofs.ListPass.IndexTurns.{short-present, short-absent}
 use Rattle.rewriting.proofs.indices.is_short.Goals as goal
 
-pub returns-in-Present : goal.returns-in-Present
-returns-in-Present c = search short-present
+pub returns-in-Some : goal.returns-in-Some
+returns-in-Some c = search short-present
 
-pub returns-in-Absent : goal.returns-in-Absent
-returns-in-Absent c = search short-absent
+pub returns-in-None : goal.returns-in-None
+returns-in-None c = search short-absent

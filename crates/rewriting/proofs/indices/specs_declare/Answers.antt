@@ -18,5 +18,5 @@ loop-a-preserved c = elim c.else-a-name.branch [
 pub returns-in-Last : goal.returns-in-Last
 returns-in-Last c = search specs-last
 
-pub returns-in-Unreadable : goal.returns-in-Unreadable
-returns-in-Unreadable c = search specs-bad
+pub returns-in_default : goal.returns-in_default
+returns-in_default c = search specs-bad

@@ -17,5 +17,5 @@ loop-d-preserved c = search table-no
 pub returns-in-Last : goal.returns-in-Last
 returns-in-Last c = search table-last
 
-pub returns-in-Unreadable : goal.returns-in-Unreadable
-returns-in-Unreadable c = search table-bad
+pub returns-in_default : goal.returns-in_default
+returns-in_default c = search table-bad

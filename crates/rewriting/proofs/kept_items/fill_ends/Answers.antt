@@ -20,5 +20,5 @@ loop-x-preserved c = search ending-terminator
 pub returns-in-End : goal.returns-in-End
 returns-in-End c = search ending-end
 
-pub returns-in-Unreadable : goal.returns-in-Unreadable
-returns-in-Unreadable c = search ending-bad
+pub returns-in_default : goal.returns-in_default
+returns-in_default c = search ending-bad

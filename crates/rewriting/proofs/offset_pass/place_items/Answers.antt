@@ -15,17 +15,17 @@ pub returns-in_default : goal.returns-in_default
 returns-in_default c = (search measuring-end, search placing-end)
 
 pub overflow_sub-new : goal.overflow_sub-new
-overflow_sub-new c = (measuring-fits _ _ _ _ _ _ _ _ _ c.loop-x.invariant.measuring _ c.next_kept.ensures _ c.in-Item.is).1
+overflow_sub-new c = (measuring-fits _ _ _ _ _ _ _ _ _ c.loop-x.invariant.measuring _ c.next_kept.ensures _ c.in-Some.is).1
 
 pub overflow_add-new : goal.overflow_add-new
-overflow_add-new c = let f = measuring-fits _ _ _ _ _ _ _ _ _ c.loop-x.invariant.measuring _ c.next_kept.ensures _ c.in-Item.is in
-    let g : c.loop-x.new.0 + (c.in-Item.x.end.at - c.in-Item.x.start.0) ≤ c.in-Item.x.end.at = f.2 in
-    let h : c.in-Item.x.end.at ≤ length c.args.unit.now = f.3 in
-    let z : c.loop-x.new.0 + (c.in-Item.x.end.at - c.in-Item.x.start.0) < 18446744073709551616 = omega (arith, g, h, c.well_formed.0.1) in
+overflow_add-new c = let f = measuring-fits _ _ _ _ _ _ _ _ _ c.loop-x.invariant.measuring _ c.next_kept.ensures _ c.in-Some.is in
+    let g : c.loop-x.new.0 + (c.in-Some.x.end.at - c.in-Some.x.start.0) ≤ c.in-Some.x.end.at = f.2 in
+    let h : c.in-Some.x.end.at ≤ length c.args.unit.now = f.3 in
+    let z : c.loop-x.new.0 + (c.in-Some.x.end.at - c.in-Some.x.start.0) < 18446744073709551616 = omega (arith, g, h, c.well_formed.0.1) in
     record { fits = z }
 
 pub loop-x-smaller : goal.loop-x-smaller
 loop-x-smaller c = search next-less
 
 pub loop-x-preserved : goal.loop-x-preserved
-loop-x-preserved c = placing-more _ _ _ _ _ _ _ _ _ _ _ c.loop-x.invariant _ c.next_kept.ensures _ c.in-Item.is _ (search rules) c.put_place.ensures
+loop-x-preserved c = placing-more _ _ _ _ _ _ _ _ _ _ _ c.loop-x.invariant _ c.next_kept.ensures _ c.in-Some.is _ (search rules) c.put_place.ensures
