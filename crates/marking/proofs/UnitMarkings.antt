@@ -18,7 +18,7 @@ use Rattle.marking.specs.Resolution.{pairs_in, graph_of, marks_in, unit_marks}
 use Rattle.marking.specs.Inner.Resolution.{UnitColumns, Markable}
 use Rattle.marking.specs.declared.units.UnitMarks.{UnitMarks}
 use Rattle.marking.specs.Columns.{entries_counted}
-use Rattle.marking.specs.Resolution.{marked}
+use Rattle.marking.specs.Resolution.{unit_marked}
 use Rattle.marking.proofs.Letters.{length-marks}
 use Rattle.marking.proofs.Rows.{UnitRows, unit-rows, no_rows, graph-takes, length-parents, length-roots}
 use Rattle.marking.proofs.Columned.{pairs-most, drop-zeros, padded-few, padded-take, rows-held}
@@ -66,12 +66,12 @@ module _ {offsets parents roots ends : List ℕ} {n : ℕ} {marks targets pairs 
       ap₂ mark_answer given_is lent_is
       ∙ ap (λ (b : Bool). pick b (Ok (kept_count (marks_of (graph_of rows)))) (Err 16)) h.fits
 
-  pub rows-kept : (k : ℕ) → Ok k ≡ mark_answer Given (length (take n marks)) → marked n k ≡ unit_marks (analysed rows)
+  pub rows-kept : (k : ℕ) → Ok k ≡ mark_answer Given (length (take n marks)) → unit_marked n k ≡ unit_marks (analysed rows)
   unfolding unit_marks
   rows-kept k q =
       let e : Ok k ≡ Ok (kept_count (marks_in rows)) = q ∙ marked-is in
       let z : k ≡ kept_count (marks_in rows) = cc in
-      ap₂ (λ (i j : ℕ). marked i j) (sym h.held.count) z
+      ap₂ (λ (i j : ℕ). unit_marked i j) (sym h.held.count) z
 
   -- marking takes the graph of a unit
   pub rows_taken : (k : ℕ) → Err k ≡ mark_answer Given (length (take n marks)) → Err k ≡ unit_marks (analysed rows)
@@ -236,7 +236,7 @@ module _ (x : Sections) (section : List ℕ) (nm nq nf np nr ne nt k : ℕ) (ind
 
     module _ (r : Result UnitMarks ℕ) (marks' pairs' : List ℕ)
         (answer : (rows : List EntryRow) → UnitColumns rows offsets parents roots ends n marks targets pairs → r ≡ unit_marks (analysed rows))
-        (marked : (rows : List EntryRow) → UnitColumns rows offsets parents roots ends n marks targets pairs → marks' ≡ pad_to (length marks) (marks_in rows))
+        (unit_marked : (rows : List EntryRow) → UnitColumns rows offsets parents roots ends n marks targets pairs → marks' ≡ pad_to (length marks) (marks_in rows))
         (paired : (rows : List EntryRow) → UnitColumns rows offsets parents roots ends n marks targets pairs → pairs' ≡ pad_to (length pairs) (pairs_in rows)) where
       pub unit-marked : UnitMarked r marks' pairs'
       unfolding column
@@ -256,7 +256,7 @@ module _ (x : Sections) (section : List ℕ) (nm nq nf np nr ne nt k : ℕ) (ind
                     (
                       f.1.1.1.0 ∙ ap (column (ends_in 0) ne) same,
                       (
-                        marked rows laid ∙ ap (λ (i : ℕ). pad_to i (marks_in rows)) marks-long ∙ sym (ap (column marks_in nm) is),
+                        unit_marked rows laid ∙ ap (λ (i : ℕ). pad_to i (marks_in rows)) marks-long ∙ sym (ap (column marks_in nm) is),
                         (
                           f.1.1.1.1 ∙ ap (column names_in nt) same,
                           paired rows laid ∙ ap (λ (i : ℕ). pad_to i (pairs_in rows)) pairs-long ∙ sym (ap (column pairs_in nq) is),

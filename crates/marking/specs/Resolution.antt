@@ -36,11 +36,11 @@ graph_of rows = graph (parents_in rows) (pairs_in rows) (roots_in rows)
 unfoldable pub marks_in : List EntryRow → List ℕ
 marks_in rows = marks_of (graph_of rows)
 
-abbrev pub marked : ℕ → ℕ → Result UnitMarks ℕ
-marked entries kept = Ok (record { entries = entries; kept = kept })
+abbrev pub unit_marked : ℕ → ℕ → Result UnitMarks ℕ
+unit_marked entries kept = Ok (record { entries = entries; kept = kept })
 
 unfoldable pub unit_marks : Analysed → Result UnitMarks ℕ
-unit_marks (analysed rows) = marked (length rows) (kept_count (marks_in rows))
+unit_marks (analysed rows) = unit_marked (length rows) (kept_count (marks_in rows))
 unit_marks (refused n) = Err n
 
 -- offsets from `low` on, in strictly ascending order

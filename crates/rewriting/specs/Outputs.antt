@@ -1,13 +1,12 @@
 -- What collect leaves in the lent slices, and its answer in numbers (document 01, "collect"; demand 1: "Output, map and
 -- index lists hold the answer, and zeros everywhere else, for every input").
-use Rattle.std.specs.Prelude.{ℕ, ◌/◌, List, length, None, Option, Some, Err, Ok}
+use Rattle.std.specs.Prelude.{ℕ, ◌/◌, List, length, None, Option, Some, Err, Ok, Result}
 use Rattle.readers.specs.Choice.{zeros}
 use Rattle.marking.specs.Analysis.{Rooms}
 use Rattle.marking.specs.Columns.{pad_to, unit_rooms}
 use Rattle.rewriting.specs.Written.{number_size, place_size, list_bytes, map_bytes}
 use Rattle.rewriting.specs.Rewriting.{Lists, Room, Collected, untouched, rewritten, refused}
 use Rattle.rewriting.specs.declared.collect.Counts.{Counts}
-use Rattle.rewriting.specs.declared.collect.Collected.{Collected as Answer}
 use Rattle.rewriting.specs.declared.collect.Collected.{Collected as Accepted}
 use Rattle.rewriting.specs.declared.collect.Collected.TheVariants.{Untouched, Rewritten}
 

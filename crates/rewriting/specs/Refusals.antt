@@ -9,9 +9,9 @@ refusal_of_mapped (Some n) = 0
 refusal_of_mapped None = 8
 
 -- 12: an index list that is too short
-abbrev pub listed : Option ℕ → Option ℕ → Option ℕ → Option Listed
-listed ranges locations strings = Some (record { ranges = ranges; locations = locations; strings = strings })
+abbrev pub lists_counted : Option ℕ → Option ℕ → Option ℕ → Option Listed
+lists_counted ranges locations strings = Some (record { ranges = ranges; locations = locations; strings = strings })
 
-abbrev pub refusal_of_listed : Listed → ℕ
+abbrev pub refusal_of_listed : Option Listed → ℕ
 refusal_of_listed (Some l) = 0
 refusal_of_listed None = 12

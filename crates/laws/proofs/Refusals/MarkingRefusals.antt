@@ -22,7 +22,7 @@ use Rattle.readers.specs.declared.entries.Entry.{Entry as Entry'}
 use Rattle.laws.proofs.Refusals.ReaderRefusals.{is_one_of, are_of, one_of, wider}
 use Rattle.marking.specs.declared.units.UnitMarks.{UnitMarks}
 use Rattle.marking.specs.declared.addresses.Verdict.{Verdict}
-use Rattle.marking.specs.Resolution.{marked}
+use Rattle.marking.specs.Resolution.{unit_marked}
 use Rattle.marking.specs.declared.addresses.Verdict.TheVariants.{Live, Dead}
 use Rattle.marking.specs.Roots.{Ranges, root_test}
 use Rattle.readers.specs.EntryAttributes.{Valued}
@@ -183,7 +183,7 @@ entries-refusal x section room h ds n z q d a =
 
 -- the marks of a unit are refused as its analysis is
 unfoldable MarksNumbered : Result UnitMarks ℕ → Type 0
-MarksNumbered (marked n k) = Unit {0}
+MarksNumbered (unit_marked n k) = Unit {0}
 MarksNumbered (Err n) = AnalysisRefusal n
 
 marks-numbered : (a : Analysed) → AnalysedOf analysis_numbers a → MarksNumbered (unit_marks a)

@@ -1,4 +1,4 @@
--- THE LAW OF DEMAND 3 about the survivors of a unit, whatever becomes of it: marked, rewritten, left untouched, or refused
+-- THE LAW OF DEMAND 3 about the survivors of a unit, whatever becomes of it: unit_marked, rewritten, left untouched, or refused
 -- after its analysis. Assumes nothing but that the unit is analysed.
 use mathlib.Core.Path.{◌≡◌, refl, ap, ap₂, sym, ◌∙◌, subst}
 use Prim.Native.Nat.{ℕ, suc, ◌<◌}
@@ -30,7 +30,7 @@ use Rattle.marking.specs.Resolution.{graph_of, marks_in, unit_marks, Ascending}
 use Rattle.laws.specs.UnitSurvivors.{FirstUnit, GraphSays, SurvivorsOf, MarkedUnit}
 use Rattle.marking.specs.EntryRows.{Tested, RowOf, RowsOf, unit_items}
 use Rattle.marking.specs.declared.addresses.Verdict.{Verdict}
-use Rattle.marking.specs.Resolution.{marked}
+use Rattle.marking.specs.Resolution.{unit_marked}
 use Rattle.marking.specs.declared.addresses.Verdict.TheVariants.{Live, Dead}
 use Rattle.marking.proofs.Graphs.{WellFormed, well-formed}
 use Rattle.laws.proofs.Survivors.KeptMarks.{marked-kept, kept-marked}
@@ -220,7 +220,7 @@ module _ (x : Sections) (section : List ℕ) (a b : List EntryRow) where
 -- ---- what marking a unit answers
 
 module _ (x : Sections) (section : List ℕ) (room : Rooms) (n k : ℕ) where
-  marked_by : (o : Analysed) → analysis_of x section room ≡ o → unit_marks o ≡ marked n k → MarkedUnit x section room n k
+  marked_by : (o : Analysed) → analysis_of x section room ≡ o → unit_marks o ≡ unit_marked n k → MarkedUnit x section room n k
   unfolding unit_marks
   marked_by (analysed rows) a q =
       let s : SurvivorsOf x section rows = unit-survivors x section room rows a in
@@ -235,5 +235,5 @@ module _ (x : Sections) (section : List ℕ) (room : Rooms) (n k : ℕ) where
       }
   marked_by (refused i) a q = let z : ◌≡◌ {A = ℕ} 0 1 = cc in absurd (omega arith)
 
-  pub marked-survivors : unit_marks (analysis_of x section room) ≡ marked n k → MarkedUnit x section room n k
+  pub marked-survivors : unit_marks (analysis_of x section room) ≡ unit_marked n k → MarkedUnit x section room n k
   marked-survivors = marked_by (analysis_of x section room) refl

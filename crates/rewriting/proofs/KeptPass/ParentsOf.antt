@@ -4,7 +4,7 @@ use Prim.Native.Nat.{ℕ, suc, ◌+◌}
 use native.Mathlib.Omega.{arith}
 use mathlib.Core.Bool.{Bool, true, false}
 use mathlib.Core.List.{List, [], ◌∷◌, ◌++◌, append_assoc}
-use Rattle.std.specs.Prelude.{None, Option, Some, Err, Ok}
+use Rattle.std.specs.Prelude.{Result, None, Option, Some, Err, Ok}
 use lib.ListN.{length, get_or, length-append}
 use lib.Dec.{ltb, leb}
 use Rattle.readers.proofs.Choice.{pick-either}
@@ -28,7 +28,7 @@ unfoldable Rows : (List EntryRow → Type 0) → Analysed → Type 0
 Rows P (analysed rows) = P rows
 Rows P (refused n) = Unit {0}
 
-rows-verdict : (P : List EntryRow → Type 0) (v : Verdict) (k : ℕ → Analysed) → ((n : ℕ) → Rows P (k n)) → Rows P (on_verdict v k)
+rows-verdict : (P : List EntryRow → Type 0) (v : Result Verdict ℕ) (k : ℕ → Analysed) → ((n : ℕ) → Rows P (k n)) → Rows P (on_verdict v k)
 unfolding Rows on_verdict
 rows-verdict P (Ok Live) k h = h 1
 rows-verdict P (Ok Dead) k h = h 0

@@ -23,7 +23,7 @@ use Rattle.rewriting.specs.Inner.Emission.{Lent}
 use Rattle.rewriting.specs.Outputs.{list_count, list_or, ranges_in, locations_in, strings_in}
 use Rattle.rewriting.specs.Inner.Leaving.{list_room, ListsAnswer}
 use Rattle.rewriting.specs.declared.kept_items.Reading.{Reading}
-use Rattle.rewriting.specs.Refusals.{listed}
+use Rattle.rewriting.specs.Refusals.{lists_counted}
 use Rattle.rewriting.specs.declared.collect.Listed.{Listed}
 use Rattle.rewriting.proofs.ListPass.Tables.{length_run}
 use Rattle.rewriting.proofs.ListPass.Held.{list-none}
@@ -126,7 +126,7 @@ module _ (t : Bool) (r : Reading) (s table unit parents ends marks : List ℕ) (
     pub settled-strings : Listing 2 r s table unit parents ends marks first list n mid → Settles r s table unit first 0 n mid c after → Answered strings_in list c after
     settled-strings g s x u p f z = subst (λ (o : Option (List ℕ)). ListAnswer o list c after) (strings-are x u t _ h) (settled 2 0 g s x u p f z)
 
-  abbrev Wanted : List ℕ → List ℕ → List ℕ → Listed → List ℕ → List ℕ → List ℕ → Type 0
+  abbrev Wanted : List ℕ → List ℕ → List ℕ → Option Listed → List ℕ → List ℕ → List ℕ → Type 0
   Wanted ranges locations strings c ranges' locations' strings' = (x : Sections) (u : Unit') → PassInput x u r s table unit parents ends marks first → first ≡ u.header.first.0
       → ranges ≡ zeros (length ranges) → locations ≡ zeros (length locations) → strings ≡ zeros (length strings)
       → ListsAnswer (lists_of x u t (kept_from marks 0 [] (items_in x u))) (length ranges) (length locations) (length strings) c ranges' locations' strings'
@@ -165,7 +165,7 @@ module _ (t : Bool) (r : Reading) (s table unit parents ends marks : List ℕ) (
         → Answered ranges_in ranges c₁ ranges' → Answered locations_in locations c₂ locations' → Answered strings_in strings c₃ strings'
         → length ranges' ≡ length ranges → length locations' ≡ length locations → length strings' ≡ length strings
         → false ≡ is_short c₁ (length ranges' / 8) → false ≡ is_short c₂ (length locations' / 8) → false ≡ is_short c₃ (length strings' / 8)
-        → Wanted ranges locations strings (listed c₁ c₂ c₃) ranges' locations' strings'
+        → Wanted ranges locations strings (lists_counted c₁ c₂ c₃) ranges' locations' strings'
     unfolding lists_fit ◌and◌
     lists-made c₁ c₂ c₃ k₁ k₂ k₃ l₁ l₂ l₃ q₁ q₂ q₃ x u p f z y w =
         let l : Lists = lists x u in
@@ -181,7 +181,7 @@ module _ (t : Bool) (r : Reading) (s table unit parents ends marks : List ℕ) (
         let yes : lists_fit (list_room (length ranges) (length locations) (length strings)) l ≡ true = all_three _ _ _ h₁ h₂ h₃ in
         record {
           short = λ e. absurd (false≢true (sym e ∙ yes));
-          made = λ _. ap (λ (c : Option ℕ). listed c c₂ c₃) m₁.counted ∙ ap (λ (c : Option ℕ). listed (list_count l.ranges) c c₃) m₂.counted ∙ ap (λ (c : Option ℕ). listed (list_count l.ranges) (list_count l.locations) c) m₃.counted;
+          made = λ _. ap (λ (c : Option ℕ). lists_counted c c₂ c₃) m₁.counted ∙ ap (λ (c : Option ℕ). lists_counted (list_count l.ranges) c c₃) m₂.counted ∙ ap (λ (c : Option ℕ). lists_counted (list_count l.ranges) (list_count l.locations) c) m₃.counted;
           lent = λ _. record { those_ranges = m₁.lent; those_locations = m₂.lent; those_strings = m₃.lent };
           ranges_left = λ _. m₁.left;
           locations_left = λ _. m₂.left;
@@ -194,7 +194,7 @@ module _ (t : Bool) (r : Reading) (s table unit parents ends marks : List ℕ) (
         all_three false b c p q r = absurd (false≢true p)
 
   -- with type units
-  pub type-lists : t ≡ true → (ranges locations strings : List ℕ) → Wanted ranges locations strings (listed None None None) ranges locations strings
+  pub type-lists : t ≡ true → (ranges locations strings : List ℕ) → Wanted ranges locations strings (lists_counted None None None) ranges locations strings
   unfolding is_short
   type-lists h ranges locations strings =
       lists-made ranges locations strings ranges locations strings None None None

@@ -1,10 +1,11 @@
 -- The answers of collect and of its parts: what follows of a refusal, of nothing to do, of an accepted answer. Assumes nothing.
+use Rattle.readers.proofs.Refusing.{same_ok}
 use mathlib.Core.Path.{◌≡◌, refl, ap, ap₂, sym, ◌∙◌, subst}
 use Prim.Native.Nat.{ℕ, ◌≤◌, ◌<◌}
 use native.Mathlib.Omega.{arith}
-use mathlib.Core.Bool.{Bool}
+use mathlib.Core.Bool.{Bool, true, false}
 use mathlib.Core.List.{List, [], ◌∷◌}
-use Rattle.std.specs.Prelude.{Err, None, Ok, Option, Result, Some}
+use Rattle.std.specs.Prelude.{Err, None, Ok, Option, Result, Some, is_err}
 use lib.ListN.{length}
 use lib.Dec.{leb, eqb}
 use mir.Facts.{leb_yes, leb_no, eqb_yes, eqb_no, yes_eqb, no_eqb}
@@ -17,12 +18,11 @@ use Rattle.marking.specs.Columns.{column, parents_in, index_after, least, rooms_
 use Rattle.marking.specs.Marks.{kept_count}
 use Rattle.marking.specs.Resolution.{marks_in, unit_marks}
 use Rattle.marking.specs.declared.units.UnitMarks.{UnitMarks}
-use Rattle.marking.specs.Resolution.{marked}
+use Rattle.marking.specs.Resolution.{unit_marked}
 use Rattle.rewriting.specs.Rewriting.{Room, unit_of, Collected, untouched, rewritten, refused, no_lists, rows_collected, analysed_collected, declared_collected, header_collected, collect_of}
 use Rattle.rewriting.specs.Outputs.{Answer, room_by, answer_for, map_for, output_for, list_or, list_for, ranges_in, locations_in, strings_in}
 use Rattle.rewriting.specs.Inner.Leaving.{Accepts, Answers, left_by, header_task, task_of, MarkedTables, Tabled, Blank, marked_of}
 use Rattle.rewriting.specs.declared.collect.Counts.{Counts}
-use Rattle.rewriting.specs.declared.collect.Collected.{Collected as Answer}
 use Rattle.rewriting.specs.declared.collect.Collected.TheVariants.{Untouched, Rewritten}
 use Rattle.rewriting.specs.declared.collect.Task.{Task}
 use Rattle.rewriting.specs.declared.collect.Task.TheVariants.{Done, Rewrite}
@@ -35,17 +35,22 @@ pub cleared : (n m : ℕ) (s : List ℕ) → s ≡ zeros n → n ≡ m → s ≡
 cleared n m s p q = p ∙ ap (λ (k : ℕ). zeros k) q
 
 module _ (r : Answer) where
-  pub left-untouched : (k : Counts) → r ≡ Ok (Untouched k) → (s : List ℕ) → s ≡ left_by r s
+  pub left-accepted : is_err r ≡ false → (s : List ℕ) → s ≡ left_by r s
   unfolding left_by
-  left-untouched k q s = sym (ap (λ (y : Answer). left_by y s) q)
+  left-accepted q s = of r q
+    where
+      of : (y : Answer) → is_err y ≡ false → s ≡ left_by y s
+      of (Ok (Untouched k)) p = refl
+      of (Ok (Rewritten k)) p = refl
+      of (Err k) p = let z : ◌≡◌ {A = ℕ} 0 1 = cc in absurd (omega arith)
 
-  pub left-rewritten : (k : Counts) → r ≡ Ok (Rewritten k) → (s : List ℕ) → s ≡ left_by r s
+  pub left-refused : is_err r ≡ true → (s s' : List ℕ) → s' ≡ zeros (length s) → s' ≡ left_by r s
   unfolding left_by
-  left-rewritten k q s = sym (ap (λ (y : Answer). left_by y s) q)
-
-  pub left-refused : (k : ℕ) → r ≡ Err k → (s s' : List ℕ) → s' ≡ zeros (length s) → s' ≡ left_by r s
-  unfolding left_by
-  left-refused k q s s' z = z ∙ sym (ap (λ (y : Answer). left_by y s) q)
+  left-refused q s s' z = z ∙ of r q
+    where
+      of : (y : Answer) → is_err y ≡ true → zeros (length s) ≡ left_by y s
+      of (Ok a) p = let z : ◌≡◌ {A = ℕ} 0 1 = cc in absurd (omega arith)
+      of (Err k) p = refl
 
 -- a slice that holds what is said of an accepted answer, and is zeros after a refusal
 left_as : (f : Collected → List ℕ) (n : ℕ) → ((k : ℕ) → f (refused k) ≡ zeros n) → (c : Collected) (r : Answer) → r ≡ answer_for c
@@ -111,9 +116,11 @@ record Counted (a : Analysed) (entries kept : ℕ) : Type 0 where
   pub entries_are : entries ≡ length rows
   pub kept_are : kept ≡ kept_count (marks_in rows)
 
-marks-counted : (a : Analysed) (entries kept : ℕ) → unit_marks a ≡ marked entries kept → Counted a entries kept
+marks-counted : (a : Analysed) (entries kept : ℕ) → unit_marks a ≡ unit_marked entries kept → Counted a entries kept
 unfolding unit_marks
-marks-counted (analysed rows) entries kept q = record { rows = rows; is = refl; entries_are = cc; kept_are = cc }
+marks-counted (analysed rows) entries kept q =
+    let e = same_ok _ _ (sym q) in
+    record { rows = rows; is = refl; entries_are = ap (λ m. m.entries) e; kept_are = ap (λ m. m.kept) e }
 marks-counted (not_analysed n) entries kept q = let z : ◌≡◌ {A = ℕ} 0 1 = cc in absurd (omega arith)
 
 no_rows : (rows : List EntryRow) → 0 ≡ length rows → rows ≡ []
@@ -174,7 +181,7 @@ module _ (x : Sections) (room : Room) (t : Bool) (section : List ℕ) where
   unfolding collect_of
   collected-refused k q = (by-header (header_by x section) refl).0 k (marks-refused (analysis_of x section tables) k q)
 
-  pub collected-none : (entries kept : ℕ) → unit_marks (analysis_of x section tables) ≡ marked entries kept → entries ≡ 0 → collect_of x room t section ≡ untouched 0 no_lists
+  pub collected-none : (entries kept : ℕ) → unit_marks (analysis_of x section tables) ≡ unit_marked entries kept → entries ≡ 0 → collect_of x room t section ≡ untouched 0 no_lists
   unfolding collect_of
   collected-none entries kept q z =
       let w : Counted (analysis_of x section tables) entries kept = marks-counted (analysis_of x section tables) entries kept q in
@@ -215,7 +222,7 @@ module _ (x : Sections) (room : Room) (t : Bool) (section : List ℕ) where
             ∙ of-rows h ds w.rows (λ e. n (w.entries_are ∙ sym e));
       }
 
-  pub marking : (h : UnitHeader) → header_by x section ≡ Ok (Some h) → (entries kept : ℕ) → unit_marks (analysis_of x section tables) ≡ marked entries kept → (entries ≡ 0 → ⊥) → Marking h entries kept
+  pub marking : (h : UnitHeader) → header_by x section ≡ Ok (Some h) → (entries kept : ℕ) → unit_marks (analysis_of x section tables) ≡ unit_marked entries kept → (entries ≡ 0 → ⊥) → Marking h entries kept
   marking h q entries kept m n =
       marking-declared h q entries kept (marks-counted (analysis_of x section tables) entries kept m) n (abbreviations_of x.abbreviations h.abbreviations) refl
 
@@ -238,16 +245,16 @@ ends-enough marks pairs offsets parents roots ends targets =
 -- ---- by the tables that marking leaves
 
 -- what is to be done, by the marks and the header
-pub task-refused : (o : Result (Option UnitHeader) ℕ) (m : UnitMarks) (k : ℕ) → m ≡ Err k → Done (Err k) ≡ task_of o m
+pub task-refused : (o : Result (Option UnitHeader) ℕ) (m : Result UnitMarks ℕ) (k : ℕ) → m ≡ Err k → Done (Err k) ≡ task_of o m
 unfolding task_of
 task-refused o m k q = sym (ap (task_of o) q)
 
-pub task-none : (o : Result (Option UnitHeader) ℕ) (m : UnitMarks) (n k : ℕ) (a : Answer) → m ≡ marked n k → n ≡ 0 → a ≡ answer_for (untouched 0 no_lists) → Done a ≡ task_of o m
+pub task-none : (o : Result (Option UnitHeader) ℕ) (m : Result UnitMarks ℕ) (n k : ℕ) (a : Answer) → m ≡ unit_marked n k → n ≡ 0 → a ≡ answer_for (untouched 0 no_lists) → Done a ≡ task_of o m
 unfolding task_of
 task-none o m n k a q z e =
     ap (λ (b : Answer). Done b) e ∙ sym (ap (task_of o) q ∙ pick_yes (eqb n 0) _ _ (yes_eqb {a = n} {b = 0} z))
 
-pub task-some : (o : Result (Option UnitHeader) ℕ) (m : UnitMarks) (n k : ℕ) (t : Task) → m ≡ marked n k → (n ≡ 0 → ⊥) → t ≡ header_task o n k → t ≡ task_of o m
+pub task-some : (o : Result (Option UnitHeader) ℕ) (m : Result UnitMarks ℕ) (n k : ℕ) (t : Task) → m ≡ unit_marked n k → (n ≡ 0 → ⊥) → t ≡ header_task o n k → t ≡ task_of o m
 unfolding task_of
 task-some o m n k t q z e = e ∙ sym (ap (task_of o) q ∙ pick_no (eqb n 0) _ _ (no_eqb {a = n} {b = 0} z))
 
@@ -264,20 +271,20 @@ unfolding header_task
 task-header o n k h q = sym (ap (λ (h : Result (Option UnitHeader) ℕ). header_task h n k) q)
 
 -- what is to be done is to rewrite a unit
-task-rewrite : (o : Result (Option UnitHeader) ℕ) (m : UnitMarks) (h : UnitHeader) (entries kept : ℕ) → task_of o m ≡ Rewrite h entries kept
-    → (o ≡ Ok (Some h)) × (m ≡ marked entries kept) × (entries ≡ 0 → ⊥)
+task-rewrite : (o : Result (Option UnitHeader) ℕ) (m : Result UnitMarks ℕ) (h : UnitHeader) (entries kept : ℕ) → task_of o m ≡ Rewrite h entries kept
+    → (o ≡ Ok (Some h)) × (m ≡ unit_marked entries kept) × (entries ≡ 0 → ⊥)
 unfolding task_of header_task
 task-rewrite o (Err n) h entries kept e = let z : ◌≡◌ {A = ℕ} 0 1 = cc in absurd (omega arith)
-task-rewrite (Ok None) (marked n k) h entries kept e =
+task-rewrite (Ok None) (Ok m) h entries kept e =
     let P : Task → Type 0 = (λ w. w ≡ Rewrite h entries kept → ⊥) in
-    absurd (pick-either P (eqb n 0) _ _ (λ t d. let z : ◌≡◌ {A = ℕ} 0 1 = cc in omega arith) (λ t d. let z : ◌≡◌ {A = ℕ} 0 1 = cc in omega arith) e)
-task-rewrite (Err j) (marked n k) h entries kept e =
+    absurd (pick-either P (eqb m.entries 0) _ _ (λ t d. let z : ◌≡◌ {A = ℕ} 0 1 = cc in omega arith) (λ t d. let z : ◌≡◌ {A = ℕ} 0 1 = cc in omega arith) e)
+task-rewrite (Err j) (Ok m) h entries kept e =
     let P : Task → Type 0 = (λ w. w ≡ Rewrite h entries kept → ⊥) in
-    absurd (pick-either P (eqb n 0) _ _ (λ t d. let z : ◌≡◌ {A = ℕ} 0 1 = cc in omega arith) (λ t d. let z : ◌≡◌ {A = ℕ} 0 1 = cc in omega arith) e)
-task-rewrite (Ok (Some g)) (marked n k) h entries kept e =
-    let P : Task → Type 0 = (λ w. w ≡ Rewrite h entries kept → (Ok (Some g) ≡ Ok (Some h)) × (marked n k ≡ marked entries kept) × (entries ≡ 0 → ⊥)) in
-    pick-either P (eqb n 0) _ _ (λ t d. let z : ◌≡◌ {A = ℕ} 0 1 = cc in absurd (omega arith))
-    (λ t d. (cc, cc, let y : n ≡ entries = cc in λ i. eqb_no {a = n} {b = 0} t (y ∙ i))) e
+    absurd (pick-either P (eqb m.entries 0) _ _ (λ t d. let z : ◌≡◌ {A = ℕ} 0 1 = cc in omega arith) (λ t d. let z : ◌≡◌ {A = ℕ} 0 1 = cc in omega arith) e)
+task-rewrite (Ok (Some g)) (Ok m) h entries kept e =
+    let P : Task → Type 0 = (λ w. w ≡ Rewrite h entries kept → (Ok (Some g) ≡ Ok (Some h)) × (Ok m ≡ unit_marked entries kept) × (entries ≡ 0 → ⊥)) in
+    pick-either P (eqb m.entries 0) _ _ (λ t d. let z : ◌≡◌ {A = ℕ} 0 1 = cc in absurd (omega arith))
+    (λ t d. (cc, let p : m.entries ≡ entries = cc in let r : m.kept ≡ kept = cc in ap₂ (λ i j. unit_marked i j) p r, let y : m.entries ≡ entries = cc in λ i. eqb_no {a = m.entries} {b = 0} t (y ∙ i))) e
 
 module _ (x : Sections) (tables : Rooms) (t : Bool) (section : List ℕ) (task : Task) (s index parents ends marks : List ℕ) (w : MarkedTables x tables section task s index parents ends marks)
     (map ranges locations strings out : List ℕ) (b : Blank map ranges locations strings out) where
@@ -296,25 +303,25 @@ module _ (x : Sections) (tables : Rooms) (t : Bool) (section : List ℕ) (task :
   no_entries q a e =
       nothing-answers _ _ _ _ _ _ _ _ _ _ _ _ q (let z : a ≡ answer_for (untouched 0 no_lists) = cc in z) b.map_blank b.ranges_blank b.locations_blank b.strings_blank b.out_blank
 
-  by-task : (m : UnitMarks) → unit_marks (analysis_of x section tables) ≡ m → (o : Result (Option UnitHeader) ℕ) → header_by x section ≡ o → (a : Answer) → task_of o m ≡ Done a → Answered a map ranges locations strings out
+  by-task : (m : Result UnitMarks ℕ) → unit_marks (analysis_of x section tables) ≡ m → (o : Result (Option UnitHeader) ℕ) → header_by x section ≡ o → (a : Answer) → task_of o m ≡ Done a → Answered a map ranges locations strings out
   unfolding task_of header_task
   by-task (Err k) u o q a = no-unit k (collected-refused x room t section k u) a
-  by-task (marked n k) u (Ok None) q a =
-      pick-either (λ (z : Task). z ≡ Done a → Answered a map ranges locations strings out) (eqb n 0) _ _
-      (λ y. no_entries (collected-none x room t section n k u (eqb_yes {a = n} {b = 0} y)) a) (λ y. no_entries (collected-empty x room t section q) a)
-  by-task (marked n k) u (Err j) q a =
-      pick-either (λ (z : Task). z ≡ Done a → Answered a map ranges locations strings out) (eqb n 0) _ _
-      (λ y. no_entries (collected-none x room t section n k u (eqb_yes {a = n} {b = 0} y)) a) (λ y. no-unit j (collected-no x room t section j q) a)
-  by-task (marked n k) u (Ok (Some h)) q a =
-      pick-either (λ (z : Task). z ≡ Done a → Answered a map ranges locations strings out) (eqb n 0) _ _
-      (λ y. no_entries (collected-none x room t section n k u (eqb_yes {a = n} {b = 0} y)) a) (λ y e. let z : ◌≡◌ {A = ℕ} 0 1 = cc in absurd (omega arith))
+  by-task (Ok m) u (Ok None) q a =
+      pick-either (λ (z : Task). z ≡ Done a → Answered a map ranges locations strings out) (eqb m.entries 0) _ _
+      (λ y. no_entries (collected-none x room t section m.entries m.kept u (eqb_yes {a = m.entries} {b = 0} y)) a) (λ y. no_entries (collected-empty x room t section q) a)
+  by-task (Ok m) u (Err j) q a =
+      pick-either (λ (z : Task). z ≡ Done a → Answered a map ranges locations strings out) (eqb m.entries 0) _ _
+      (λ y. no_entries (collected-none x room t section m.entries m.kept u (eqb_yes {a = m.entries} {b = 0} y)) a) (λ y. no-unit j (collected-no x room t section j q) a)
+  by-task (Ok m) u (Ok (Some h)) q a =
+      pick-either (λ (z : Task). z ≡ Done a → Answered a map ranges locations strings out) (eqb m.entries 0) _ _
+      (λ y. no_entries (collected-none x room t section m.entries m.kept u (eqb_yes {a = m.entries} {b = 0} y)) a) (λ y e. let z : ◌≡◌ {A = ℕ} 0 1 = cc in absurd (omega arith))
 
   done-answers : (a : Answer) → task ≡ Done a → Answered a map ranges locations strings out
   done-answers a e = by-task (unit_marks (analysis_of x section tables)) refl (header_by x section) refl a (sym w.task_is ∙ e)
 
   -- a unit that has entries
   module _ (h : UnitHeader) (entries kept : ℕ) (e : task ≡ Rewrite h entries kept) where
-    task-parts : (header_by x section ≡ Ok (Some h)) × (unit_marks (analysis_of x section tables) ≡ marked entries kept) × (entries ≡ 0 → ⊥)
+    task-parts : (header_by x section ≡ Ok (Some h)) × (unit_marks (analysis_of x section tables) ≡ unit_marked entries kept) × (entries ≡ 0 → ⊥)
     task-parts = task-rewrite (header_by x section) (unit_marks (analysis_of x section tables)) h entries kept (sym w.task_is ∙ e)
 
     marked : Marking x room t section h entries kept
@@ -379,7 +386,7 @@ by_lengths f a map' ranges' locations' strings' out' m m₀ r r₀ l l₀ s s₀
     (subst (λ (z : ℕ). Answers (f z r l s o) a z r l s o map' ranges' locations' strings' out') em h))))
 
 -- the answer for marked tables and cleared outputs
-pub unit-answers : (x : Sections) (tables : Rooms) (t : Bool) (section : List ℕ) (task : Task) (h : Result (Option UnitHeader) ℕ) (u : UnitMarks) (n p e k m r l s o : ℕ)
+pub unit-answers : (x : Sections) (tables : Rooms) (t : Bool) (section : List ℕ) (task : Task) (h : Result (Option UnitHeader) ℕ) (u : Result UnitMarks ℕ) (n p e k m r l s o : ℕ)
     (index parents ends marks map ranges locations strings out map' ranges' locations' strings' out' : List ℕ) (a : Answer)
     → task ≡ task_of h u → h ≡ header_by x section → u ≡ unit_marks (analysis_of x section tables)
     → index ≡ index_after x.abbreviations (header_by x section) n → length index ≡ n

@@ -1,10 +1,11 @@
 -- The unit of marked tables: what its parts ask for holds, and what they answer is the answer for it. Assumes nothing.
+use Rattle.std.proofs.lemmas.Option.{same_Some}
 use mathlib.Core.Path.{◌≡◌, refl, ap, sym, ◌∙◌, subst}
 use Prim.Native.Nat.{ℕ, zero, suc, ◌+◌, ◌-◌, ◌^◌, ◌≤◌, ◌<◌}
 use native.Mathlib.Omega.{arith}
 use mathlib.Core.Bool.{Bool, true, false, false≢true}
 use mathlib.Core.List.{List, [], ◌∷◌, ◌++◌}
-use Rattle.std.specs.Prelude.{Option, Err, None, Ok}
+use Rattle.std.specs.Prelude.{Option, Err, None, Ok, Result}
 use lib.ListN.{length, take, get_or}
 use lib.Dec.{leb}
 use borrow.Author.Tests.{eq-eqb, ne_eqb}
@@ -32,9 +33,8 @@ use Rattle.rewriting.specs.Inner.Emission.{ListsLent}
 use Rattle.rewriting.specs.Outputs.{Answer, room_by, list_count, answer_for, map_for, output_for, list_or, list_for, ranges_in, locations_in, strings_in}
 use Rattle.rewriting.specs.Inner.Leaving.{Accepts, Answers, Tabled, Blank, marked_of, list_room, ListsAnswer, Writable, WriteAnswer}
 use Rattle.rewriting.specs.declared.kept_items.Reading.{Reading}
-use Rattle.rewriting.specs.Refusals.{listed}
+use Rattle.rewriting.specs.Refusals.{lists_counted}
 use Rattle.rewriting.specs.declared.collect.Listed.{Listed}
-use Rattle.rewriting.specs.declared.collect.Collected.{Collected as Answer}
 use Rattle.rewriting.specs.declared.collect.Collected.TheVariants.{Untouched}
 use Rattle.readers.specs.Header.{length_size}
 use Rattle.readers.proofs.HeaderLaws.{HeaderLaw, header-laws}
@@ -188,7 +188,7 @@ rewrite-lists x room u entries kept l items f n =
 module _ (t : Bool) (section : List ℕ) (h : UnitHeader) (s index parents ends marks : List ℕ) (entries kept : ℕ) (map ranges locations strings out unit : List ℕ) (is : unit ≡ take h.end section)
     (ends' : List ℕ)
     (fe : entry_count (items_by (reading h.abbreviations h.encoding) s index unit h.first.0) ≤ length ends → EndsHeld ends' 0 (items_by (reading h.abbreviations h.encoding) s index unit h.first.0))
-    (listed : Listed) (ranges' locations' strings' : List ℕ)
+    (listed : Option Listed) (ranges' locations' strings' : List ℕ)
     (il : (x : Sections) (u : Unit') → PassInput x u (reading h.abbreviations h.encoding) s index unit parents ends' marks h.first.0 → h.first.0 ≡ u.header.first.0
     → ranges ≡ zeros (length ranges) → locations ≡ zeros (length locations) → strings ≡ zeros (length strings)
     → ListsAnswer (lists_of x u t (kept_from marks 0 [] (items_in x u))) (length ranges) (length locations) (length strings) listed ranges' locations' strings') where
@@ -219,13 +219,13 @@ module _ (t : Bool) (section : List ℕ) (h : UnitHeader) (s index parents ends 
     abbrev fit : Bool
     fit = lists_fit (list_room (length ranges) (length locations) (length strings)) l
 
-    fits-made : (p q r : Option ℕ) → listed ≡ listed p q r → fit ≡ true
+    fits-made : (p q r : Option ℕ) → listed ≡ lists_counted p q r → fit ≡ true
     fits-made p q r e =
-        true-or-false fit (fit ≡ true) (λ y. y) (λ n. let z : None ≡ listed p q r = sym (those.short n) ∙ e in let k : ◌≡◌ {A = ℕ} 0 1 = cc in absurd (omega arith))
+        true-or-false fit (fit ≡ true) (λ y. y) (λ n. let z : None ≡ lists_counted p q r = sym (those.short n) ∙ e in let k : ◌≡◌ {A = ℕ} 0 1 = cc in absurd (omega arith))
 
     fits-short : listed ≡ None → fit ≡ false
     fits-short e =
-        true-or-false fit (fit ≡ false) (λ y. let z : listed (list_count l.ranges) (list_count l.locations) (list_count l.strings) ≡ None = sym (those.made y) ∙ e in let k : ◌≡◌ {A = ℕ} 0 1 = cc in absurd (omega arith)) (λ n. n)
+        true-or-false fit (fit ≡ false) (λ y. let z : lists_counted (list_count l.ranges) (list_count l.locations) (list_count l.strings) ≡ None = sym (those.made y) ∙ e in let k : ◌≡◌ {A = ℕ} 0 1 = cc in absurd (omega arith)) (λ n. n)
 
     is-short-of : fit ≡ false → marked_of x room t u rows ≡ refused 12
     unfolding marks_collected lists_fit
@@ -239,15 +239,15 @@ module _ (t : Bool) (section : List ℕ) (h : UnitHeader) (s index parents ends 
     unfolding marks_collected lists_fit
     is-written q e = pick_is _ _ _ q ∙ pick-else _ _ _ (ne_eqb _ _ e)
 
-    counts : (p q r : Option ℕ) → listed ≡ listed p q r → (p ≡ list_count l.ranges) × (q ≡ list_count l.locations) × (r ≡ list_count l.strings)
+    counts : (p q r : Option ℕ) → listed ≡ lists_counted p q r → (p ≡ list_count l.ranges) × (q ≡ list_count l.locations) × (r ≡ list_count l.strings)
     counts p q r e =
-        let z : listed p q r ≡ listed (list_count l.ranges) (list_count l.locations) (list_count l.strings) = sym e ∙ those.made (fits-made p q r e) in
-        (cc, cc, cc)
+        let z = same_Some _ _ (sym e ∙ those.made (fits-made p q r e)) in
+        (ap (λ c. c.ranges) z, ap (λ c. c.locations) z, ap (λ c. c.strings) z)
 
     short-one : listed ≡ None → Answers (marked_of x room t u rows) (Err 12) (length map) (length ranges) (length locations) (length strings) (length out) map ranges' locations' strings' out
     short-one e = refused-answers (marked_of x room t u rows) (Err 12) (length map) (length ranges) (length locations) (length strings) (length out) map ranges' locations' strings' out 12 (is-short-of (fits-short e)) refl
 
-    untouched-one : (p q r : Option ℕ) → listed ≡ listed p q r → kept ≡ entries
+    untouched-one : (p q r : Option ℕ) → listed ≡ lists_counted p q r → kept ≡ entries
         → Answers (marked_of x room t u rows) (Ok (Untouched (record { entries = entries; kept = kept; places = 0; bytes = 0; ranges = p; locations = q; strings = r })))
         (length map) (length ranges) (length locations) (length strings) (length out) map ranges' locations' strings' out
     unfolding answer_for map_for list_for output_for
@@ -272,7 +272,7 @@ module _ (t : Bool) (section : List ℕ) (h : UnitHeader) (s index parents ends 
           out_left = λ _. b.out_blank ∙ sym (ap (output_for (length out)) c);
         }
 
-    module _ (p q r : Option ℕ) (e : listed ≡ listed p q r) (dead : kept ≡ entries → ⊥) (a : Answer) (map' out' : List ℕ)
+    module _ (p q r : Option ℕ) (e : listed ≡ lists_counted p q r) (dead : kept ≡ entries → ⊥) (a : Answer) (map' out' : List ℕ)
         (k : (x : Sections) (u : Unit') (lists : Lists) (room : Room) → PassInput x u (reading h.abbreviations h.encoding) s index unit parents ends' marks h.first.0
         → ListsLent lists ranges' p locations' q strings' r → Writable u room unit h.first.0 map out
         → WriteAnswer (rewrite_of x room u entries kept lists (kept_from marks 0 [] (items_in x u))) a (length map) (length out) map' out') where
@@ -312,11 +312,11 @@ module _ (t : Bool) (section : List ℕ) (h : UnitHeader) (s index parents ends 
   pub short-unit : listed ≡ None → Goal (Err 12) map out
   short-unit e x tables ds rows w b = short-one x tables ds rows w b e
 
-  pub untouched-unit : (p q r : Option ℕ) → listed ≡ listed p q r → kept ≡ entries
+  pub untouched-unit : (p q r : Option ℕ) → listed ≡ lists_counted p q r → kept ≡ entries
       → Goal (Ok (Untouched (record { entries = entries; kept = kept; places = 0; bytes = 0; ranges = p; locations = q; strings = r }))) map out
   untouched-unit p q r e k x tables ds rows w b = untouched-one x tables ds rows w b p q r e k
 
-  pub written-unit : (p q r : Option ℕ) → listed ≡ listed p q r → (kept ≡ entries → ⊥) → (a : Answer) (map' out' : List ℕ)
+  pub written-unit : (p q r : Option ℕ) → listed ≡ lists_counted p q r → (kept ≡ entries → ⊥) → (a : Answer) (map' out' : List ℕ)
       → ((x : Sections) (u : Unit') (lists : Lists) (room : Room) → PassInput x u (reading h.abbreviations h.encoding) s index unit parents ends' marks h.first.0
       → ListsLent lists ranges' p locations' q strings' r → Writable u room unit h.first.0 map out
       → WriteAnswer (rewrite_of x room u entries kept lists (kept_from marks 0 [] (items_in x u))) a (length map) (length out) map' out')

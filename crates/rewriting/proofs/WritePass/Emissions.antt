@@ -77,10 +77,10 @@ pub record EmitsAt (n : ℕ) (bytes out : List ℕ) (at : ℕ) (r : Result ℕ �
   pub fine : at + length bytes ≤ length out → n ≡ 0 → (r ≡ Ok (at + length bytes)) × (out' ≡ put out at bytes)
   pub no : at + length bytes ≤ length out → (n ≡ 0 → ⊥) → r ≡ Err n
 
-emitted-to : (a b : ℕ) → Ok a ≡ Ok b → a ≡ b
+emitted-to : (a b : ℕ) → ◌≡◌ {A = Result ℕ ℕ} (Ok a) (Ok b) → a ≡ b
 emitted-to a b h = cc
 
-emitted-not : (a b : ℕ) → Ok a ≡ Err b → ⊥
+emitted-not : (a b : ℕ) → ◌≡◌ {A = Result ℕ ℕ} (Ok a) (Err b) → ⊥
 emitted-not a b h = let z : ◌≡◌ {A = ℕ} 0 1 = cc in absurd (omega arith)
 
 pub emits_none : (out : List ℕ) (at : ℕ) → EmitsAt 0 [] out at (Ok at) out

@@ -37,7 +37,6 @@ use Rattle.rewriting.specs.Outputs.{Answer, list_count, answer_for, map_for, out
 use Rattle.rewriting.specs.Inner.Leaving.{Accepts, Writable, WriteAnswer}
 use Rattle.rewriting.specs.declared.kept_items.Reading.{Reading}
 use Rattle.rewriting.specs.declared.offset_pass.Size.{Size}
-use Rattle.rewriting.specs.declared.collect.Collected.{Collected as Answer}
 use Rattle.rewriting.specs.declared.collect.Collected.TheVariants.{Rewritten}
 use Rattle.rewriting.proofs.WritePass.Emissions.{EmitsAt}
 use Rattle.rewriting.proofs.KeptPass.DeepReads.{like-width, like-patched, deep-ends}

@@ -8,17 +8,16 @@ use Rattle.marking.specs.Analysis.{Sections, Rooms, rooms, EntryRow, analysed, h
 use Rattle.marking.specs.Columns.{pad_to, column, parents_in, index_after}
 use Rattle.marking.specs.Marks.{kept_count}
 use Rattle.marking.specs.Resolution.{marks_in, unit_marks}
+use Rattle.rewriting.specs.declared.collect.Listed.{Listed}
 use Rattle.marking.specs.declared.units.UnitMarks.{UnitMarks}
-use Rattle.rewriting.specs.Refusals.{listed}
-use Rattle.marking.specs.Resolution.{marked}
+use Rattle.rewriting.specs.Refusals.{lists_counted}
+use Rattle.marking.specs.Resolution.{}
 use Rattle.rewriting.specs.Places.{kept_from}
 use Rattle.rewriting.specs.Rewriting.{Unit as Unit', items_in, Lists, Room, no_lists, lists_fit, marks_collected}
 use Rattle.rewriting.specs.Rewriting.{Collected, untouched, rewritten, refused}
 use Rattle.rewriting.specs.Inner.Emission.{ListsLent}
 use Rattle.rewriting.specs.Written.{place_size}
 use Rattle.rewriting.specs.Outputs.{Answer, room_by, list_count, answer_for, map_for, output_for, list_or, list_for, ranges_in, locations_in, strings_in}
-use Rattle.rewriting.specs.declared.collect.Listed.{Listed}
-use Rattle.rewriting.specs.declared.collect.Collected.{Collected as Answer}
 use Rattle.rewriting.specs.declared.collect.Collected.TheVariants.{Untouched, Rewritten}
 use Rattle.rewriting.specs.declared.collect.Task.{Task}
 use Rattle.rewriting.specs.declared.collect.Task.TheVariants.{Done, Rewrite}
@@ -54,7 +53,7 @@ header_task (Ok None) entries kept = Done (answer_for (untouched 0 no_lists))
 header_task (Err n) entries kept = Done (Err n)
 header_task (Ok (Some h)) entries kept = Rewrite h entries kept
 
-unfoldable pub task_of : Result (Option UnitHeader) ℕ → UnitMarks → Task
+unfoldable pub task_of : Result (Option UnitHeader) ℕ → Result UnitMarks ℕ → Task
 task_of o (Err n) = Done (Err n)
 task_of o (Ok m) = pick (eqb m.entries 0) (Done (answer_for (untouched 0 no_lists))) (header_task o m.entries m.kept)
 
@@ -102,9 +101,9 @@ marked_of x room type_units u rows = marks_collected x room type_units u (marks_
 abbrev pub list_room : ℕ → ℕ → ℕ → Room
 list_room ranges locations strings = room_by (rooms 0 0) 0 ranges locations strings 0
 
-pub record ListsAnswer (l : Lists) (ranges locations strings : ℕ) (r : Listed) (ranges' locations' strings' : List ℕ) : Type 0 where
+pub record ListsAnswer (l : Lists) (ranges locations strings : ℕ) (r : Option Listed) (ranges' locations' strings' : List ℕ) : Type 0 where
   pub short : lists_fit (list_room ranges locations strings) l ≡ false → r ≡ None
-  pub made : lists_fit (list_room ranges locations strings) l ≡ true → r ≡ listed (list_count l.ranges) (list_count l.locations) (list_count l.strings)
+  pub made : lists_fit (list_room ranges locations strings) l ≡ true → r ≡ lists_counted (list_count l.ranges) (list_count l.locations) (list_count l.strings)
   pub lent : lists_fit (list_room ranges locations strings) l ≡ true
       → ListsLent l ranges' (list_count l.ranges) locations' (list_count l.locations) strings' (list_count l.strings)
   pub ranges_left : lists_fit (list_room ranges locations strings) l ≡ true → ranges' ≡ list_or ranges l.ranges

@@ -19,8 +19,8 @@ slice_bounds-emit_dies-count c = omega (arith, inside _ _ _ (header-inside _ _ _
 pub slice_bounds-emit_dies-start : goal.slice_bounds-emit_dies-start
 slice_bounds-emit_dies-start c = omega (arith, inside _ _ _ (header-inside _ _ _ _ _ _ _ c.emit_header-at.ensures.count c.emit_header-at.ensures.part))
 
-pub returns-in_ok-emit_dies : goal.returns-in_ok-emit_dies
-returns-in_ok-emit_dies c = unit-written _ _ _ _ _ _ _ _ _ _ _ _ _ _ _ _ _ _ _ c.place_items-size.ensures.0 _ c.place_items-size.ensures.1 c.place_items-size.auto.map c.if-size-map.false c.if-size-out.false _ _ _ c.fill_work.ensures c.emit_header-at.auto.out _ (λ f. header-there _ _ _ _ _ f _ _ c.emit_header-at.ensures.count c.emit_header-at.ensures.part) _ (λ x u lists ps p q m n b g. emits-on _ _ _ (header-inside _ _ _ _ _ _ _ c.emit_header-at.ensures.count c.emit_header-at.ensures.part) (c.emit_dies.ensures.bytes x u lists ps p q m n b g)) _ (onward-to _ _ _ c.in_ok-emit_dies.was)
+pub returns : goal.returns
+returns c = unit-written _ _ _ _ _ _ _ _ _ _ _ _ _ _ _ _ _ _ _ c.place_items-size.ensures.0 _ c.place_items-size.ensures.1 c.place_items-size.auto.map c.if-size-map.false c.if-size-out.false _ _ _ c.fill_work.ensures c.emit_header-at.auto.out _ (λ f. header-there _ _ _ _ _ f _ _ c.emit_header-at.ensures.count c.emit_header-at.ensures.part) _ (λ x u lists ps p q m n b g. emits-on _ _ _ (header-inside _ _ _ _ _ _ _ c.emit_header-at.ensures.count c.emit_header-at.ensures.part) (c.emit_dies.ensures.bytes x u lists ps p q m n b g)) _ (onward-to _ _ _ c.in_ok-emit_dies.was)
 
 pub returns-in_err-emit_dies : goal.returns-in_err-emit_dies
-returns-in_err-emit_dies c = passed-on _ _ c.from_residual.ensures.1 ∙ unit-refused _ _ _ _ _ _ _ _ _ _ _ _ _ _ _ _ _ _ _ c.place_items-size.ensures.0 _ c.place_items-size.ensures.1 c.place_items-size.auto.map c.if-size-map.false c.if-size-out.false _ _ _ c.fill_work.ensures c.emit_header-at.auto.out _ (λ f. header-there _ _ _ _ _ f _ _ c.emit_header-at.ensures.count c.emit_header-at.ensures.part) _ (λ x u lists ps p q m n b g. emits-on _ _ _ (header-inside _ _ _ _ _ _ _ c.emit_header-at.ensures.count c.emit_header-at.ensures.part) (c.emit_dies.ensures.bytes x u lists ps p q m n b g)) _ (onward-no _ _ _ c.in_err-emit_dies.was)
+returns-in_err-emit_dies c = rw (passed-on _ _ c.from_residual.ensures.1) (unit-refused _ _ _ _ _ _ _ _ _ _ _ _ _ _ _ _ _ _ _ c.place_items-size.ensures.0 _ c.place_items-size.ensures.1 c.place_items-size.auto.map c.if-size-map.false c.if-size-out.false _ _ _ c.fill_work.ensures c.emit_header-at.auto.out _ (λ f. header-there _ _ _ _ _ f _ _ c.emit_header-at.ensures.count c.emit_header-at.ensures.part) _ (λ x u lists ps p q m n b g. emits-on _ _ _ (header-inside _ _ _ _ _ _ _ c.emit_header-at.ensures.count c.emit_header-at.ensures.part) (c.emit_dies.ensures.bytes x u lists ps p q m n b g)) _ (onward-no _ _ _ c.in_err-emit_dies.was))

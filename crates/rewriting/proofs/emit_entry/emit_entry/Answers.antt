@@ -26,17 +26,17 @@ loop-past-preserved-in-Copy c = (
       (copied_on _ _ _ c.loop-past.invariant.0 _ _ _ c.emit_bytes-n.ensures.count c.emit_bytes-n.ensures.part _ c.bytes_between-in-Copy.ensures),
 )
 
-pub returns-in_err-to : goal.returns-in_err-to
-returns-in_err-to c = passed-on _ _ c.from_residual.ensures.1 ∙ record {
+pub returns-in_err-to-in-Change : goal.returns-in_err-to-in-Change
+returns-in_err-to-in-Change c = rw (passed-on _ _ c.from_residual.ensures.1) (record {
   within = within-trans (copied-within _ _ _ _ c.emit_bytes-to.ensures.count c.emit_bytes-to.ensures.part) (within-stop _ _ _ c.loop-past.invariant.0 _ _ c.emit_attribute.ensures.within _);
-  bytes = λ lists ps look x rs rest m n b lent step sp va d. from_start (entry_done _ _ look _ _ x step rs rest d _ _ (ap (λ (k : Cursor). k.at) sp) (ap (λ (k : Cursor). k.at) va) lists ps _ _ _ _ _ (λ _ _. copied-front _ _ _ _ c.emit_bytes-to.ensures.count c.emit_bytes-to.ensures.part _ c.bytes_between.ensures) _ _ (λ reads after i k. entering-refused lists ps _ _ _ _ reads _ _ _ _ _ _ (c.loop-past.invariant.1 lists ps reads after m n b lent i k) _ (plan-more _ _ c.next_plan.ensures _ c.in-Change.is) _ refl _ _ (λ one mid j v e. emits-on _ _ _ c.loop-past.invariant.0 (c.emit_attribute.ensures.bytes lists ps one mid m n b lent j v e)) _ (onward-no _ _ _ c.in_err-to.was)));
-}
+  bytes = λ lists ps look x rs rest m n b lent step sp va d. from_start (entry_done _ _ look _ _ x step rs rest d _ _ (ap (λ (k : Cursor). k.at) sp) (ap (λ (k : Cursor). k.at) va) lists ps _ _ _ _ _ (λ _ _. copied-front _ _ _ _ c.emit_bytes-to.ensures.count c.emit_bytes-to.ensures.part _ c.bytes_between.ensures) _ _ (λ reads after i k. entering-refused lists ps _ _ _ _ reads _ _ _ _ _ _ (c.loop-past.invariant.1 lists ps reads after m n b lent i k) _ (plan-more _ _ c.next_plan.ensures _ c.in-Change.is) _ refl _ _ (λ one mid j v e. emits-on _ _ _ c.loop-past.invariant.0 (c.emit_attribute.ensures.bytes lists ps one mid m n b lent j v e)) _ (onward-no _ _ _ c.in_err-to-in-Change.was)));
+})
 
 pub loop-past-smaller : goal.loop-past-smaller
 loop-past-smaller c = entering-less _ _ _ _ _ _ _ (plan-more _ _ c.next_plan.ensures _ c.in-Change.is) refl
 
 pub loop-past-preserved : goal.loop-past-preserved
-loop-past-preserved c = (within_on _ _ _ c.loop-past.invariant.0 _ _ c.emit_attribute.ensures.within _ c.in_ok-to.was, λ lists ps reads after m n b lent i k. entering-on lists ps _ _ _ _ reads _ _ _ _ _ _ (c.loop-past.invariant.1 lists ps reads after m n b lent i k) _ (plan-more _ _ c.next_plan.ensures _ c.in-Change.is) _ refl _ _ (λ one mid j v e. emits-on _ _ _ c.loop-past.invariant.0 (c.emit_attribute.ensures.bytes lists ps one mid m n b lent j v e)) _ (onward-to _ _ _ c.in_ok-to.was))
+loop-past-preserved c = (within_on _ _ _ c.loop-past.invariant.0 _ _ c.emit_attribute.ensures.within _ c.in_ok-to-in-Change.was, λ lists ps reads after m n b lent i k. entering-on lists ps _ _ _ _ reads _ _ _ _ _ _ (c.loop-past.invariant.1 lists ps reads after m n b lent i k) _ (plan-more _ _ c.next_plan.ensures _ c.in-Change.is) _ refl _ _ (λ one mid j v e. emits-on _ _ _ c.loop-past.invariant.0 (c.emit_attribute.ensures.bytes lists ps one mid m n b lent j v e)) _ (onward-to _ _ _ c.in_ok-to-in-Change.was))
 
 pub returns-in-Over : goal.returns-in-Over
 returns-in-Over c = record {

@@ -39,14 +39,14 @@ slice_bounds-emit_offset-count c = omega (arith, inside _ _ _ (within_on _ _ _ c
 pub slice_bounds-emit_offset-start : goal.slice_bounds-emit_offset-start
 slice_bounds-emit_offset-start c = omega (arith, inside _ _ _ (within_on _ _ _ c.loop-r.invariant.0 _ _ (copied-within _ _ _ _ c.emit_bytes-n-in-loop-r.ensures.count c.emit_bytes-n-in-loop-r.ensures.part) _ refl))
 
-pub overflow_add-to-in_ok-to : goal.overflow_add-to-in_ok-to
-overflow_add-to-in_ok-to c = record { fits = after_small _ _ _ (within_on _ _ _ c.loop-r.invariant.0 _ _ (copied-within _ _ _ _ c.emit_bytes-n-in-loop-r.ensures.count c.emit_bytes-n-in-loop-r.ensures.part) _ refl) _ _ c.emit_offset.ensures.within c.well_formed.1.1.1.1.0.0 _ c.in_ok-to.was }
+pub overflow_add-to-in-loop-r : goal.overflow_add-to-in-loop-r
+overflow_add-to-in-loop-r c = record { fits = after_small _ _ _ (within_on _ _ _ c.loop-r.invariant.0 _ _ (copied-within _ _ _ _ c.emit_bytes-n-in-loop-r.ensures.count c.emit_bytes-n-in-loop-r.ensures.part) _ refl) _ _ c.emit_offset.ensures.within c.well_formed.1.1.1.1.0.0 _ c.in_ok-to.was }
 
 pub returns-in_err-to : goal.returns-in_err-to
-returns-in_err-to c = passed-on _ _ c.from_residual.ensures.1 ∙ record {
+returns-in_err-to c = rw (passed-on _ _ c.from_residual.ensures.1) (record {
   within = within-stop _ _ _ (within_on _ _ _ c.loop-r.invariant.0 _ _ (copied-within _ _ _ _ c.emit_bytes-n-in-loop-r.ensures.count c.emit_bytes-n-in-loop-r.ensures.part) _ refl) _ _ c.emit_offset.ensures.within _;
   bytes = λ lists ps depth pieces h p q. from_start (going-refused lists ps depth pieces _ _ _ _ _ _ _ _ (c.loop-r.invariant.3 lists ps depth pieces h p q) _ c.next_reference.ensures _ c.in-Some.is _ _ (λ _ _. copied_on _ _ _ c.loop-r.invariant.0 _ _ _ c.emit_bytes-n-in-loop-r.ensures.count c.emit_bytes-n-in-loop-r.ensures.part _ (between-whole _ _ _)) _ (c.hinted_offset.ensures ps h p) _ _ (λ o v m w. emits-on _ _ _ (within_on _ _ _ c.loop-r.invariant.0 _ _ (copied-within _ _ _ _ c.emit_bytes-n-in-loop-r.ensures.count c.emit_bytes-n-in-loop-r.ensures.part) _ refl) (c.emit_offset.ensures.bytes o v m w)) _ (onward-no _ _ _ c.in_err-to.was));
-}
+})
 
 pub overflow_add-copied : goal.overflow_add-copied
 overflow_add-copied c = record { fits = next_small _ _ _ _ c.next_reference.ensures _ c.in-Some.is c.well_formed.0.0 }

@@ -6,8 +6,8 @@ use Rattle.readers.specs.EntryAttributes.{specs_from}
 use Rattle.rewriting.specs.Inner.Indices.{specs_declare}
 use Rattle.rewriting.proofs.indices.specs_declare.Given as goal
 
-abbrev pub invariant-loop-a : goal.invariant-loop-a
-invariant-loop-a l = specs_declare l.name (specs_from l.abbreviations l.initial.p.at) ≡ specs_declare l.name (specs_from l.abbreviations l.p.at)
+abbrev pub invariant-loop-step : goal.invariant-loop-step
+invariant-loop-step l = specs_declare l.name (specs_from l.abbreviations l.initial.p.at) ≡ specs_declare l.name (specs_from l.abbreviations l.p.at)
 
-abbrev pub decreases-loop-a : goal.decreases-loop-a
-decreases-loop-a l = length l.abbreviations - l.p.at
+abbrev pub decreases-loop-step : goal.decreases-loop-step
+decreases-loop-step l = length l.abbreviations - l.p.at

@@ -4,8 +4,8 @@ use lib.ListN.{length}
 use Rattle.rewriting.proofs.ListPass.Declaring.{Declaring}
 use Rattle.rewriting.proofs.indices.table_declares.Given as goal
 
-abbrev pub invariant-loop-d : goal.invariant-loop-d
-invariant-loop-d l = Declaring l.abbreviations l.name l.from l.at.at
+abbrev pub invariant-loop-step : goal.invariant-loop-step
+invariant-loop-step l = Declaring l.abbreviations l.name l.from l.at.at
 
-abbrev pub decreases-loop-d : goal.decreases-loop-d
-decreases-loop-d l = length l.abbreviations - l.at.at
+abbrev pub decreases-loop-step : goal.decreases-loop-step
+decreases-loop-step l = length l.abbreviations - l.at.at

@@ -4,8 +4,8 @@ use lib.ListN.{length}
 use Rattle.rewriting.proofs.KeptPass.EndsFilled.{Ending}
 use Rattle.rewriting.proofs.kept_items.fill_ends.Given as goal
 
-abbrev pub invariant-loop-x : goal.invariant-loop-x
-invariant-loop-x l = Ending l.r l.abbreviations l.index l.unit l.initial.at.at l.initial.ends l.ends l.at.at l.count.0
+abbrev pub invariant-loop-step : goal.invariant-loop-step
+invariant-loop-step l = Ending l.r l.abbreviations l.index l.unit l.initial.at.at l.initial.ends l.ends l.at.at l.count.0
 
-abbrev pub decreases-loop-x : goal.decreases-loop-x
-decreases-loop-x l = length l.unit - l.at.at
+abbrev pub decreases-loop-step : goal.decreases-loop-step
+decreases-loop-step l = length l.unit - l.at.at

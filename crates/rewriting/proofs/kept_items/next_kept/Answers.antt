@@ -12,7 +12,7 @@ pub returns-then-at-unit : goal.returns-then-at-unit
 returns-then-at-unit c = end-end _ _ _ _ _ _ _ c.args.s (stand c.loop-at.at.at c.loop-at.count.0 c.loop-at.nesting) c.loop-at.invariant (sym (step_end _ _ _ _ _ c.if-at-unit.true))
 
 pub returns-in_err-code : goal.returns-in_err-code
-returns-in_err-code c = c.from_residual.ensures ∙ stop-none _ _ _ _ _ _ _ c.args.s (stand c.loop-at.at.at c.loop-at.count.0 c.loop-at.nesting) c.loop-at.invariant c.if-at-unit.false _ c.uleb.ensures c.in_err-code.was
+returns-in_err-code c = rw c.from_residual.ensures (stop-none _ _ _ _ _ _ _ c.args.s (stand c.loop-at.at.at c.loop-at.count.0 c.loop-at.nesting) c.loop-at.invariant c.if-at-unit.false _ c.uleb.ensures c.in_err-code.was)
 
 pub returns-then-kept : goal.returns-then-kept
 returns-then-kept c = terminator-item _ _ _ _ _ _ _ c.args.s (stand c.loop-at.at.at c.loop-at.count.0 c.loop-at.nesting) c.loop-at.invariant _ (at-terminator _ _ _ _ _ _ _ c.args.s (stand c.loop-at.at.at c.loop-at.count.0 c.loop-at.nesting) c.loop-at.invariant c.if-at-unit.false _ c.uleb.ensures _ _ c.in_ok-code.was c.if-code-eq0.true) _ c.after_terminator-nesting.ensures (sym c.closes_kept-kept.ensures ∙ c.if-kept.true)
@@ -33,7 +33,7 @@ returns-then-end-values c = elim c.then-end-values.branch [
 ]
 
 pub returns-in_err-d : goal.returns-in_err-d
-returns-in_err-d c = c.from_residual-in_err-d.ensures ∙ stop-unknown _ _ _ _ _ _ _ c.args.s (stand c.loop-at.at.at c.loop-at.count.0 c.loop-at.nesting) c.loop-at.invariant c.if-at-unit.false _ c.uleb.ensures _ _ c.in_ok-code.was c.if-code-eq0.false _ (found_at _ _ _ _ _ c.find_declaration.ensures) c.in_err-d.was
+returns-in_err-d c = rw c.from_residual-in_err-d.ensures (stop-unknown _ _ _ _ _ _ _ c.args.s (stand c.loop-at.at.at c.loop-at.count.0 c.loop-at.nesting) c.loop-at.invariant c.if-at-unit.false _ c.uleb.ensures _ _ c.in_ok-code.was c.if-code-eq0.false _ (found_at _ _ _ _ _ c.find_declaration.ensures) c.in_err-d.was)
 
 pub returns-then-kept-2 : goal.returns-then-kept-2
 returns-then-kept-2 c = ends-item _ _ _ _ _ _ _ c.args.s (stand c.loop-at.at.at c.loop-at.count.0 c.loop-at.nesting) c.loop-at.invariant c.if-at-unit.false _ c.uleb.ensures _ _ c.in_ok-code.was c.if-code-eq0.false _ (end-there c.args.ends.now _ _ c.place-k.ensures) c.if-end-values.false c.if-end-unit.false _ c.after_entry-nesting.ensures (omega (arith, c.place-k.ensures, c.if-k-ends.false, c.well_formed.1.1.1.1.1.0.0)) _ (found_at _ _ _ _ _ c.find_declaration.ensures) _ c.in_ok-d.was (sym c.is_kept-kept.ensures ∙ c.if-kept-2.true)
