@@ -282,9 +282,9 @@ task-rewrite (Err j) (Ok m) h entries kept e =
     let P : Task → Type 0 = (λ w. w ≡ Rewrite h entries kept → ⊥) in
     absurd (pick-either P (eqb m.entries 0) _ _ (λ t d. let z : ◌≡◌ {A = ℕ} 0 1 = cc in omega arith) (λ t d. let z : ◌≡◌ {A = ℕ} 0 1 = cc in omega arith) e)
 task-rewrite (Ok (Some g)) (Ok m) h entries kept e =
-    let P : Task → Type 0 = (λ w. w ≡ Rewrite h entries kept → (Ok (Some g) ≡ Ok (Some h)) × (Ok m ≡ unit_marked entries kept) × (entries ≡ 0 → ⊥)) in
+    let P : Task → Type 0 = (λ w. w ≡ Rewrite h entries kept → ◌≡◌ {A = Result (Option UnitHeader) ℕ} (Ok (Some g)) (Ok (Some h)) × ◌≡◌ {A = Result UnitMarks ℕ} (Ok m) (unit_marked entries kept) × (entries ≡ 0 → ⊥)) in
     pick-either P (eqb m.entries 0) _ _ (λ t d. let z : ◌≡◌ {A = ℕ} 0 1 = cc in absurd (omega arith))
-    (λ t d. (cc, let p : m.entries ≡ entries = cc in let r : m.kept ≡ kept = cc in ap₂ (λ i j. unit_marked i j) p r, let y : m.entries ≡ entries = cc in λ i. eqb_no {a = m.entries} {b = 0} t (y ∙ i))) e
+    (λ t d. (cc, let p : m.entries ≡ entries = cc in let r : m.kept ≡ kept = cc in let q : ◌≡◌ {A = Result UnitMarks ℕ} (unit_marked m.entries m.kept) (unit_marked entries kept) = ap₂ (λ (i : ℕ) (j : ℕ). unit_marked i j) p r in q, let y : m.entries ≡ entries = cc in λ i. eqb_no {a = m.entries} {b = 0} t (y ∙ i))) e
 
 module _ (x : Sections) (tables : Rooms) (t : Bool) (section : List ℕ) (task : Task) (s index parents ends marks : List ℕ) (w : MarkedTables x tables section task s index parents ends marks)
     (map ranges locations strings out : List ℕ) (b : Blank map ranges locations strings out) where
