@@ -14,10 +14,9 @@ use crate::emit_entry::{Emitted, bytes_between, emit_bytes, emit_entry};
 use crate::kept_items::{KeptStep, PassPosition, Reading, next_kept};
 use crate::lists::ListCount;
 use crate::numbers::{bytes_fit, put_bytes, put_fixed};
-use readers::cursor::{Cursor, Encoding};
-use readers::entries::Nesting;
+use readers::cursor::Encoding;
 use readers::header::length_bytes;
-use readers::offsets::{EntryIndex, UnitOffset};
+use readers::offsets::UnitOffset;
 
 // Writes the kept items (gc.rs: `emit_dies`).
 pub(crate) fn emit_dies(
@@ -51,13 +50,7 @@ pub(crate) fn emit_dies(
         → let items = kept_from marks.now 0 [] (items_in x u) in
         Emits (refusal_from x u lists ps items) (bytes_from x u lists ps items) out.old result out.new }
 {
-    let mut s = PassPosition {
-        at: Cursor {
-            at: first.0 as usize,
-        },
-        count: EntryIndex(0),
-        nesting: Nesting::outside(),
-    };
+    let mut s = PassPosition::start(first);
     let mut to: usize = 0;
     // No for: the place goes on by what is read there.
     loop {

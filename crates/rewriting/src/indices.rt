@@ -19,9 +19,9 @@ use readers::abbreviations::{DeclarationStep, SpecStep};
 use readers::attributes::list_of;
 use readers::codes::DW_FORM_sec_offset;
 use readers::cursor::{Cursor, Encoding};
-use readers::entries::{Nesting, Step};
+use readers::entries::Step;
 use readers::entry_attributes::{NextAttribute, next_attribute};
-use readers::offsets::{EntryIndex, UnitOffset};
+use readers::offsets::UnitOffset;
 use readers::tables::clear_bytes;
 
 // Whether an entry declares an attribute of a name in sec_offset.
@@ -211,13 +211,7 @@ fn gather(
         × (made 1 location_list.old result.locations location_list.new
         × made 2 string_list.old result.strings string_list.new)) }
 {
-    let mut s = PassPosition {
-        at: Cursor {
-            at: first.0 as usize,
-        },
-        count: EntryIndex(0),
-        nesting: Nesting::outside(),
-    };
+    let mut s = PassPosition::start(first);
     let mut g = Lengths {
         ranges: 0,
         locations: 0,

@@ -1,6 +1,7 @@
 // The kept entries and terminators of a unit, one after the other: the walk that every pass shares.
-ghost use Rattle.std.specs.Prelude.{◌≡◌, ℕ, ◌^◌, ◌≤◌, ◌<◌, length, get_or};
+ghost use Rattle.std.specs.Prelude.{◌≡◌, ℕ, ◌^◌, ◌≤◌, ◌<◌, [], length, get_or};
 ghost use Rattle.marking.specs.Marks.{is_kept};
+ghost use Rattle.readers.specs.Nesting.{nesting_of};
 ghost use Rattle.readers.specs.Stream.{entry_count};
 ghost use Rattle.rewriting.specs.Inner.Ends.{end_number, EndsHeld};
 ghost use Rattle.rewriting.specs.Inner.NextKept.{closes_kept, items_by, Answers};
@@ -24,6 +25,21 @@ pub struct PassPosition {
     pub at: Cursor,
     pub count: EntryIndex,
     pub nesting: Nesting,
+}
+
+impl PassPosition {
+    // Where a pass begins: outside every entry.
+    pub(crate) fn start(first: UnitOffset) -> PassPosition
+        ensures { result ≡ record { at = record { at = first.0 }; count = record { 0 = 0 }; nesting = nesting_of [] } }
+    {
+        PassPosition {
+            at: Cursor {
+                at: first.0 as usize,
+            },
+            count: EntryIndex(0),
+            nesting: Nesting::outside(),
+        }
+    }
 }
 
 // A kept item: its offset, the cursor past it, its depth, for an entry where its specifications and its values start, and

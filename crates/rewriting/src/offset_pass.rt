@@ -6,9 +6,7 @@ ghost use Rattle.rewriting.specs.Inner.MapFilled.{Fills};
 
 use crate::kept_items::{KeptStep, PassPosition, Reading, next_kept};
 use crate::map::put_place;
-use readers::cursor::Cursor;
-use readers::entries::Nesting;
-use readers::offsets::{EntryIndex, UnitOffset};
+use readers::offsets::UnitOffset;
 
 #[derive(Clone, Copy)]
 pub struct Size {
@@ -33,13 +31,7 @@ pub(crate) fn place_items(
         × (Fills items unit.now parents.now ends.now marks.now first.0
         map.old map.new) }
 {
-    let mut s = PassPosition {
-        at: Cursor {
-            at: first.0 as usize,
-        },
-        count: EntryIndex(0),
-        nesting: Nesting::outside(),
-    };
+    let mut s = PassPosition::start(first);
     let mut places: usize = 0;
     let mut new = UnitOffset(first.0);
     // No for: the place goes on by what is read there.

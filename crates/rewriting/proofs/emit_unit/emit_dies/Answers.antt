@@ -6,7 +6,7 @@ use Rattle.rewriting.proofs.WritePass.ItemEmits.{writing_start, writing-end, wri
 use Rattle.rewriting.proofs.emit_unit.emit_dies.Goals as goal
 
 pub loop-x-init : goal.loop-x-init
-loop-x-init c = (within-start _, λ x u lists ps p q h k b g. writing_start _ _ _ _ _ _ _ _ x u lists ps p q _ _ c.outside.ensures)
+loop-x-init c = rw c.start-s.ensures (within-start _, λ x u lists ps p q h k b g. writing_start _ _ _ _ _ _ _ _ x u lists ps p q _ _ refl)
 
 pub returns-in_default : goal.returns-in_default
 returns-in_default c = record {

@@ -1,10 +1,11 @@
 -- `gather`: each list has the indices of the kept items so far, and is to get those of the items from here on. Assumes nothing.
+use mathlib.Core.Path.{refl}
 use native.Mathlib.Omega.{arith}
 use Rattle.rewriting.proofs.Whole.CollectTurns.{collecting-start, collect-end, collect-less, collect-terminator, collect-entry}
 use Rattle.rewriting.proofs.indices.gather.Goals as goal
 
 pub loop-x-init : goal.loop-x-init
-loop-x-init c = (collecting-start _ _ _ _ 0 _ _ _ _ _ _ c.outside.ensures, collecting-start _ _ _ _ 1 _ _ _ _ _ _ c.outside.ensures, collecting-start _ _ _ _ 2 _ _ _ _ _ _ c.outside.ensures)
+loop-x-init c = rw c.start-s.ensures (collecting-start _ _ _ _ 0 _ _ _ _ _ _ refl, collecting-start _ _ _ _ 1 _ _ _ _ _ _ refl, collecting-start _ _ _ _ 2 _ _ _ _ _ _ refl)
 
 pub returns-in_default : goal.returns-in_default
 returns-in_default c = (

@@ -1,4 +1,5 @@
 -- `place_items` counts each kept item and puts its place: what is done, and what is kept from here on, is the whole. Assumes nothing.
+use mathlib.Core.Path.{refl}
 use Prim.Native.Nat.{◌+◌, ◌-◌, ◌≤◌, ◌<◌}
 use native.Mathlib.Omega.{arith}
 use borrow.Author.Rules.{rules}
@@ -8,7 +9,7 @@ use Rattle.rewriting.proofs.MapPass.MapFills.{placing-start, placing-end, placin
 use Rattle.rewriting.proofs.offset_pass.place_items.Goals as goal
 
 pub loop-x-init : goal.loop-x-init
-loop-x-init c = search placing-start
+loop-x-init c = rw c.start-s.ensures (placing-start _ _ _ _ _ _ _ _ refl)
 
 pub returns-in_default : goal.returns-in_default
 returns-in_default c = (search measuring-end, search placing-end)
