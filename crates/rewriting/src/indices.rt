@@ -18,7 +18,7 @@ use readers::attributes::list_of;
 use readers::codes::DW_FORM_sec_offset;
 use readers::cursor::{Cursor, Encoding};
 use readers::entries::Step;
-use readers::entry_attributes::{EntryAttribute, next_attribute};
+use readers::entry_attributes::next_attribute;
 use readers::offsets::UnitOffset;
 use readers::tables::clear_bytes;
 

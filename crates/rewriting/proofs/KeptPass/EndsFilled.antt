@@ -1,5 +1,5 @@
 -- The column of the entries' ends while it is filled: what it will hold from here on makes it hold all. Assumes nothing.
-use mathlib.Core.Path.{◌≡◌, refl, ap, sym, ◌∙◌, subst}
+use mathlib.Core.Path.{◌≡◌, ap, sym, ◌∙◌, subst}
 use Prim.Native.Nat.{ℕ, suc, ◌+◌, ◌-◌, ◌*◌, ◌^◌, ◌≤◌, ◌<◌}
 use native.Mathlib.Omega.{arith}
 use native.Mathlib.Numerals.{add-one}
@@ -50,9 +50,6 @@ module _ (r : Reading) (abbreviations index unit : List ℕ) (first : ℕ) (ends
 
   abbrev pub Ended : List ℕ → Type 0
   Ended ends = entry_count (items first) ≤ length ends₀ → EndsHeld ends 0 (items first)
-
-  pub ending-start : Ending ends₀ first 0
-  ending-start = record { size = refl; many = (let z : entry_count (items first) ≡ 0 + entry_count (items first) = omega arith in z); passed = omega arith; onward = λ final a h. h }
 
   module _ (ends : List ℕ) (at count : ℕ) (g : Ending ends at count) (o : Option Step) (p : o ≡ step at) where
     module _ (final : List ℕ) (z : get_or final count 0 ≡ 0) (a : (i : ℕ) → i < count → get_or final i 0 ≡ get_or ends i 0) where

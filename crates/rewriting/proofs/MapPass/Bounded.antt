@@ -1,5 +1,5 @@
 -- The search for a sibling's place by a table of bounds, and how the table is filled. Assumes nothing.
-use Prim.Native.Nat.{ℕ, zero, suc, min, ◌+◌, ◌-◌, ◌*◌, ◌/◌, ◌≤◌, ◌<◌}
+use Prim.Native.Nat.{ℕ, zero, suc, ◌+◌, ◌-◌, ◌*◌, ◌/◌, ◌≤◌, ◌<◌}
 use mathlib.Core.Path.{◌≡◌, ap, sym, ◌∙◌, subst}
 use mathlib.Core.List.{List}
 use mathlib.Core.Logic.{⊎_elim}
@@ -110,9 +110,6 @@ pub record Least (map : List ℕ) (places from i least : ℕ) : Type 0 where
   pub fits : least < 4294967296
   pub deep : (ps : List Place) → MapHeld ps map → places ≡ length ps → AsDeep ps least from i
 
-pub least_start : (map : List ℕ) (places from : ℕ) → Least map places from from 4294967295
-least_start map places from = record { fits = omega arith; deep = λ ps h e. record { deep = λ j a b l. absurd (omega arith) } }
-
 pub least_more : (map : List ℕ) (places from i least d r : ℕ) → Least map places from i least → i < places → (i < length map / place_size → d ≡ number_at number_size map (place_size * i + 2 * number_size)) → r ≤ least → r ≤ d
     → Least map places from (i + 1) r
 least_more map places from i least d r p l is-depth a b =
@@ -131,10 +128,6 @@ least_more map places from i least d r p l is-depth a b =
                 (either (ltb j i));
           };
     }
-
--- past the last place, or past the last one that is asked for
-pub least-done : (map : List ℕ) (places from i to least : ℕ) → Least map places from i least → min to places ≤ i → (ps : List Place) → MapHeld ps map → places ≡ length ps → AsDeep ps least from to
-least-done map places from i to least p l ps h e = record { deep = λ j a b w. (p.deep ps h e).deep j a (omega arith) w }
 
 -- ---- the loop that fills the table
 

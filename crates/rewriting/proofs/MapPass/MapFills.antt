@@ -89,9 +89,6 @@ module _ (items : ℕ → List Item) (parents ends marks unit : List ℕ) (first
       }
 
   module _ (map : List ℕ) (s : PassPosition) (i new : ℕ) (f : Placing map s i new) where
-    pub placing-size : length map ≡ length map₀
-    placing-size = f.same
-
     module _ (r : Option KeptItem) (a : Answers items parents ends marks unit s r) where
       end-held : r ≡ None → ColumnsHeld items parents ends first → place_size * length (kept_of_unit items marks first) ≤ length map₀ → map₀ ≡ zeros (length map₀)
           → NumbersHeld number_size (columns (places_from first (kept_of_unit items marks first))) map

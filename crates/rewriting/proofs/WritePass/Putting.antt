@@ -4,14 +4,14 @@ use mathlib.Core.Path.{◌≡◌, refl, ap, ap₂, sym, ◌∙◌, subst}
 use mathlib.Core.Bool.{Bool, true, false}
 use mathlib.Core.Logic.{⊎_elim}
 use mathlib.Core.List.{List, [], ◌∷◌, ◌++◌, append-nil, reverse, reverse-cons}
-use native.Mathlib.Nat.{pow-zero, pow-suc, div-lt_iff_lt-mul}
+use native.Mathlib.Nat.{pow-suc, div-lt_iff_lt-mul}
 use native.Mathlib.Numerals.{add-one}
 use native.Mathlib.Omega.{arith}
 use lib.ListN.{length, get_or, take, drop, set, length-append, length-drop, length-set, drop_of_length-le, take-append-drop}
 use lib.Seq.{drop-cons, take-suc, take_at, set_at, append_snoc, length-take-le}
-use lib.Dec.{ltb, leb, eqb}
+use lib.Dec.{ltb, leb}
 use mir.Facts.{ltb_yes, ltb_no}
-use borrow.Author.Tests.{lt-ltb, le-ltb, le-leb, lt-leb, ltb-true, leb-true, eq-eqb, ne_eqb}
+use borrow.Author.Tests.{lt-ltb, le-ltb, le-leb, lt-leb, ltb-true, leb-true}
 use Rattle.readers.specs.Choice.{pick, ◌and◌, zeros, put}
 use Rattle.readers.proofs.Choice.{either}
 use Rattle.readers.specs.Numbers.{padded, little_bytes, ordered, fixed_bytes}
@@ -81,17 +81,10 @@ digits-less base v k h =
     (λ u. ltb_no {a = v / base} {b = base ^ k} u) (either (ltb (v / base) (base ^ k))))))
     (either (ltb v (base ^ suc k)))
 
-pub digits-none : (v n base : ℕ) → n ≡ 0 → eqb v 0 ≡ ltb v (base ^ n)
-digits-none zero n base e = rw e (eq-eqb 0 0 refl ∙ sym (lt-ltb 0 (base ^ 0) (omega (arith, pow-zero base))))
-digits-none (suc v) n base e = rw e (ne_eqb (suc v) 0 (λ z. omega arith) ∙ sym (le-ltb (suc v) (base ^ 0) (omega (arith, pow-zero base))))
-
 -- after i turns: what is left has at most width - i digits where the number has at most width
 pub record Shortened (base value width rest i : ℕ) : Type 0 where
   pub few : i ≤ width
   pub same : ltb value (base ^ width) ≡ ltb rest (base ^ (width - i))
-
-pub shortened-start : (base value width : ℕ) → Shortened base value width value 0
-shortened-start base value width = record { few = omega arith; same = ap (λ n. ltb value (base ^ n)) (let e : width ≡ width - 0 = omega arith in e) }
 
 pub shortened-more : (base value width rest i : ℕ) → 0 < base → i < width → Shortened base value width rest i → Shortened base value width (rest / base) (i + 1)
 shortened-more base value width rest i b h p =
@@ -99,9 +92,6 @@ shortened-more base value width rest i b h p =
       few = omega arith;
       same = p.same ∙ ap (λ n. ltb rest (base ^ n)) (let e : width - i ≡ suc (width - (i + 1)) = omega arith in e) ∙ digits-less base rest (width - (i + 1)) b;
     }
-
-pub shortened-done : (base value width rest i : ℕ) → width ≤ i → Shortened base value width rest i → eqb rest 0 ≡ ltb value (base ^ width)
-shortened-done base value width rest i h p = digits-none rest (width - i) base (omega arith) ∙ sym p.same
 
 -- ---- what is answered
 
@@ -237,13 +227,6 @@ grouping-more value last out₀ rest i out h p =
 -- the last byte
 grouping-end : (value last : ℕ) (out₀ : List ℕ) (rest i : ℕ) (out : List ℕ) → last ≤ i → Grouping value last out₀ rest i out → last - i ≡ 0
 grouping-end value last out₀ rest i out h p = let f : i ≤ last = p.few in omega arith
-
-pub grouping-low : (value last : ℕ) (out₀ : List ℕ) (rest i : ℕ) (out : List ℕ) → last ≤ i → Grouping value last out₀ rest i out → rest < 128
-grouping-low value last out₀ rest i out h p =
-    let l : rest < 128 ^ suc 0 = subst (λ n. rest < 128 ^ suc n) (grouping-end value last out₀ rest i out h p) p.low in omega arith
-
-pub grouping-room : (value last : ℕ) (out₀ : List ℕ) (rest i : ℕ) (out : List ℕ) → Grouping value last out₀ rest i out → i < length out
-grouping-room value last out₀ rest i out p = let f : i ≤ last = p.few in omega (arith, p.room, p.putting.same)
 
 pub grouping-done : (value width : ℕ) (out₀ : List ℕ) (rest i : ℕ) (out : List ℕ) → groups_fit value width (length out₀) ≡ true
     → width - 1 ≤ i → Grouping value (width - 1) out₀ rest i out → set out (width - 1) rest ≡ padded (width - 1) value ++ drop width out₀
