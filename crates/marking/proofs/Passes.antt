@@ -1,8 +1,8 @@
 -- One store that raises a mark, and passes after each other.
 use Prim.Native.Nat.{ℕ, zero, suc, ◌+◌, ◌*◌, ◌/◌, ◌-◌, ◌≤◌, ◌<◌}
-use mathlib.Core.Path.{◌≡◌, refl, sym, subst, ◌∙◌}
+use mathlib.Core.Path.{◌≡◌, refl, subst, ◌∙◌}
 use mathlib.Core.List.{List, [], ◌∷◌}
-use mathlib.Core.Bool.{Bool, true, false, true≢false, false≢true}
+use mathlib.Core.Bool.{Bool, true, false, true≢false, false≢true, ◌||◌}
 use mathlib.Core.Logic.{⊎_elim}
 use native.Mathlib.Nat.{not-suc-le-zero, le_of_suc-le-suc, eq-or-lt_of_le}
 use native.Mathlib.Omega.{arith}
@@ -15,7 +15,7 @@ use Rattle.readers.specs.Nesting.{no_parent}
 use Rattle.marking.specs.Graph.{Graph, size, is_root, references, holder, parent_fits, pair_fits}
 use Rattle.marking.specs.Survivors.{Survivor, parent, Live, live_named}
 use Rattle.marking.specs.Inner.Passes.{sum, Sound, Pass, WithParents, WithPairs, WithBoth, DownAt, AlongAt, UpAt, Down, Along, Up, Settled, ParentsFit, PairsFit}
-use Rattle.marking.proofs.Tests.{or_inr, every-at}
+use Rattle.marking.proofs.Tests.{every-at}
 use Rattle.marking.proofs.Graphs.{parent_in, names_in_lem, parent-fits, pair_fits_lem}
 use Rattle.marking.proofs.Survivors.{live-kept, live-down}
 use Rattle.marking.proofs.Spreads.{spread-on}
@@ -95,16 +95,10 @@ module _ (On : Graph → Type 0) (C : Type 0) (D E : List ℕ → Type 0) (m m' 
   pub after : (a b r : Bool) → Pass On C m m' a → Pass On (D m') m' m'' b → r ≡ (a or b) → Pass On (E m) m m'' r
   after a b r p q e = rw e (then a b p q)
 
-pub or-now : (a : Bool) {b r : Bool} → b ≡ true → r ≡ true → r ≡ (a or b)
-or-now a p q = rw (p, q) (sym (or_inr a refl))
-
-or-none : (a : Bool) → a ≡ (a or false)
+pub or-same : (a b : Bool) → (a || b) ≡ (a or b)
 unfolding ◌or◌
-or-none true = refl
-or-none false = refl
-
-pub or-then : {a b r : Bool} → b ≡ false → r ≡ a → r ≡ (a or b)
-or-then p q = rw (p, q) (or-none _)
+or-same true b = refl
+or-same false b = refl
 
 -- what a look at a parent or a pair finds is an entry
 pub parent-before : (ps m : List ℕ) (i : ℕ) → ParentsFit ps m → i < length m → (get_or ps i 0 ≡ no_parent → ⊥) → get_or ps i 0 < length m

@@ -15,14 +15,7 @@ pub(crate) fn down_at(parents: &[u64], marks: &mut [u8], i: usize) -> bool
         marks.old marks.new result }
 {
     let p = parents[i];
-    if p == NO_PARENT {
-        return false;
-    }
-    let q = p as usize;
-    if marks[q] < 3 {
-        return false;
-    }
-    if marks[i] >= 3 {
+    if p == NO_PARENT || marks[p as usize] < 3 || marks[i] >= 3 {
         return false;
     }
     marks[i] = 3;
@@ -61,14 +54,10 @@ pub(crate) fn up_at(parents: &[u64], marks: &mut [u8], i: usize) -> bool
         return false;
     }
     let p = parents[i];
-    if p == NO_PARENT {
+    if p == NO_PARENT || marks[p as usize] >= 2 {
         return false;
     }
-    let q = p as usize;
-    if marks[q] >= 2 {
-        return false;
-    }
-    marks[q] = 2;
+    marks[p as usize] = 2;
     true
 }
 
@@ -80,12 +69,8 @@ pub(crate) fn down(parents: &[u64], marks: &mut [u8]) -> bool
         marks.old marks.new result }
 {
     let mut changed = false;
-    let mut i = 0;
-    while i < marks.len() {
-        if down_at(parents, marks, i) {
-            changed = true;
-        }
-        i += 1;
+    for i in 0..marks.len() {
+        changed |= down_at(parents, marks, i);
     }
     changed
 }

@@ -41,21 +41,10 @@ fn find_entry(offsets: &[u64], entries: usize, target: UnitOffset) -> EntryFound
     requires { Searched offsets.now entries }
     ensures { result ≡ as_entry (entry_from 0 (take entries offsets.now) target.0) }
 {
-    let mut low: usize = 0;
-    let mut high = entries;
-    while low < high {
-        let middle = low + (high - low) / 2;
-        let offset = offsets[middle];
-        if offset == target.0 {
-            return EntryFound::Entry(EntryIndex(middle as u64));
-        }
-        if offset < target.0 {
-            low = middle + 1;
-        } else {
-            high = middle;
-        }
+    match offsets[..entries].binary_search(&target.0) {
+        Ok(i) => EntryFound::Entry(EntryIndex(i as u64)),
+        Err(_) => EntryFound::Nothing,
     }
-    EntryFound::Nothing
 }
 
 // ---- hints of where an entry stands: entry numbers by shifted offset. Each is tested before it is used.
@@ -67,45 +56,27 @@ fn bucket(offset: UnitOffset, shift: u32) -> usize {
 
 // How far offsets up to a last one are shifted so that they are places of a table of so many numbers.
 fn shift_for(last: u64, room: usize) -> u32 {
-    let mut most = last as usize;
-    let mut shift: u32 = 0;
-    while shift < 63 {
-        if most < room {
+    for shift in 0..63 {
+        if ((last >> shift) as usize) < room {
             return shift;
         }
-        most = most / 2;
-        shift += 1;
     }
-    shift
-}
-
-// The least of two numbers.
-fn least_within(a: usize, b: usize) -> usize
-    ensures left { result ≤ a }
-    ensures right { result ≤ b }
-{
-    if a < b { a } else { b }
+    63
 }
 
 // A hint into its place, if the table has it.
 fn put_hint(hints: &mut [u32], at: usize, hint: u32) {
-    if at >= hints.len() {
-        return;
+    if let Some(place) = hints.get_mut(at) {
+        *place = hint;
     }
-    hints[at] = hint;
 }
 
 // The numbers of the entries that 32 bits have room for, each in the bucket of its offset; of several the last stays.
 fn fill_hints(offsets: &[u64], entries: usize, hints: &mut [u32], shift: u32)
     requires { entries ≤ length offsets.now }
 {
-    let most = least_within(entries, 0x1_0000_0000);
-    let mut i: usize = 0;
-    while i < most {
-        let at = bucket(UnitOffset(offsets[i]), shift);
-        let hint = i as u32;
-        put_hint(hints, at, hint);
-        i += 1;
+    for i in 0..entries.min(0x1_0000_0000) {
+        put_hint(hints, bucket(UnitOffset(offsets[i]), shift), i as u32);
     }
 }
 
@@ -119,16 +90,11 @@ fn guess(offsets: &[u64], target: UnitOffset, hints: &[u32], shift: u32) -> usiz
     if i >= offsets.len() {
         return i;
     }
-    let mut steps: usize = 0;
-    while steps < 8 {
-        if offsets[i] <= target.0 {
-            return i;
-        }
-        if i == 0 {
+    for _ in 0..8 {
+        if offsets[i] <= target.0 || i == 0 {
             return i;
         }
         i -= 1;
-        steps += 1;
     }
     i
 }
@@ -145,10 +111,8 @@ fn find_hinted(
     ensures { result ≡ as_entry (entry_from 0 (take entries offsets.now) target.0) }
 {
     let i = guess(offsets, target, hints, shift);
-    if i < entries {
-        if offsets[i] == target.0 {
-            return EntryFound::Entry(EntryIndex(i as u64));
-        }
+    if i < entries && offsets[i] == target.0 {
+        return EntryFound::Entry(EntryIndex(i as u64));
     }
     find_entry(offsets, entries, target)
 }
@@ -172,8 +136,7 @@ fn resolve_entry(
         (2 * result ≡ 2 * at + length found) × (pairs.new ≡ put pairs.old (2 * at) found) }
 {
     let mut place = at;
-    let mut j = from;
-    while j < to {
+    for j in from..to {
         match find_hinted(offsets, entries, UnitOffset(targets[j]), hints, shift) {
             EntryFound::Entry(named) => {
                 pairs[2 * place] = holder.0;
@@ -182,7 +145,6 @@ fn resolve_entry(
             }
             EntryFound::Nothing => {}
         }
-        j += 1;
     }
     place
 }
@@ -209,15 +171,13 @@ fn resolve(
 {
     let mut place: usize = 0;
     let mut from: usize = 0;
-    let mut i = EntryIndex(0);
-    while (i.0 as usize) < entries {
-        let k = i.0 as usize;
-        let to = reference_ends[k] as usize;
+    for i in 0..entries {
+        let holder = EntryIndex(i as u64);
+        let to = reference_ends[i] as usize;
         place = resolve_entry(
-            offsets, entries, targets, from, to, i, pairs, place, hints, shift,
+            offsets, entries, targets, from, to, holder, pairs, place, hints, shift,
         );
         from = to;
-        i = EntryIndex(i.0 + 1);
     }
     place
 }
@@ -226,28 +186,18 @@ fn resolve(
 fn last_offset(offsets: &[u64], entries: usize) -> u64
     requires { entries ≤ length offsets.now }
 {
-    if entries == 0 {
-        return 0;
-    }
-    offsets[entries - 1]
+    offsets[..entries].last().map_or(0, |offset| *offset)
 }
 
 // The first places of a table made zeros.
 fn clear_first(table: &mut [u32], most: usize) {
-    let n = least_within(most, table.len());
-    let mut i: usize = 0;
-    while i < n {
-        table[i] = 0;
-        i += 1;
-    }
+    let n = most.min(table.len());
+    table[..n].fill(0);
 }
 
 // How many hints there are: two an entry, as far as the work column has room.
 fn hint_room(work: usize, entries: usize) -> usize {
-    if work / 2 < entries {
-        return work;
-    }
-    2 * entries
+    work.min(entries.saturating_mul(2))
 }
 
 // The pairs of all references, with hints in the work column; the hints are zeros again after.

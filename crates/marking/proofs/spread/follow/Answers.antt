@@ -1,6 +1,5 @@
 -- `follow` meets its contract: the marks so far are sound where those at the start were. Assumes nothing.
 use native.Mathlib.Omega.{arith}
-use borrow.Author.Rules.{rules}
 use Rattle.marking.proofs.Passes.{pairs-fit-still}
 use Rattle.marking.proofs.Spreads.{parents-fit-still, spread-on}
 use Rattle.marking.proofs.spread.follow.Goals as goal
@@ -13,4 +12,4 @@ follow_at-to-requires c = record {
 }
 
 pub loop-j-preserved : goal.loop-j-preserved
-loop-j-preserved c = (omega arith, search rules, search rules, search spread-on)
+loop-j-preserved c = search spread-on

@@ -1,6 +1,4 @@
 -- `visit_all` meets its contract: the marks so far are sound where those at the start were. Assumes nothing.
-use native.Mathlib.Omega.{arith}
-use borrow.Author.Rules.{rules}
 use Rattle.marking.proofs.Passes.{pairs-fit-still}
 use Rattle.marking.proofs.Spreads.{parents-fit-still, spread-on}
 use Rattle.marking.proofs.spread.visit_all.Goals as goal
@@ -11,5 +9,5 @@ visit-to-requires c = record {
   pairs_fit = search pairs-fit-still;
 }
 
-pub loop-i-preserved : goal.loop-i-preserved
-loop-i-preserved c = (omega arith, search rules, search rules, search spread-on)
+pub loop-preserved : goal.loop-preserved
+loop-preserved c = search spread-on

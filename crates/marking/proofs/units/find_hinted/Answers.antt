@@ -1,6 +1,6 @@
 -- `find_hinted`: a hint that holds is the entry, since the offsets ascend; else it is searched. Assumes nothing.
 use native.Mathlib.Omega.{arith}
-use Rattle.marking.proofs.Searches.{halving-start, halving-found}
+use Rattle.marking.proofs.Searches.{entry-hinted}
 use Rattle.marking.proofs.units.find_hinted.Goals as goal
 
 pub offset_bounds-offsets-i : goal.offset_bounds-offsets-i
@@ -10,7 +10,7 @@ pub bounds-offsets-i : goal.bounds-offsets-i
 bounds-offsets-i c = omega (arith, c.requires.inside)
 
 pub returns-then-offsets-i : goal.returns-then-offsets-i
-returns-then-offsets-i c = halving-found _ _ _ 0 _ (halving-start _ _ _ c.requires) _ (omega arith) (omega (arith, c.if-i-entries.true)) c.if-offsets-i.true
+returns-then-offsets-i c = entry-hinted _ _ _ c.requires _ (omega arith) c.if-offsets-i.true
 
 pub find_entry-requires : goal.find_entry-requires
 find_entry-requires c = c.requires

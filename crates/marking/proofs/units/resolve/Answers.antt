@@ -5,11 +5,11 @@ use Rattle.marking.proofs.units.resolve.Goals as goal
 pub loop-i-init : goal.loop-i-init
 loop-i-init c = λ rows h. turning-start _ _ _ _ _ rows h
 
-pub offset_bounds-reference_ends-k : goal.offset_bounds-reference_ends-k
-offset_bounds-reference_ends-k c = omega (arith, ends-inside _ _ _ _ _ _ c.requires.held)
+pub offset_bounds-reference_ends-i : goal.offset_bounds-reference_ends-i
+offset_bounds-reference_ends-i c = omega (arith, ends-inside _ _ _ _ _ _ c.requires.held)
 
-pub bounds-reference_ends-k : goal.bounds-reference_ends-k
-bounds-reference_ends-k c = omega (arith, ends-inside _ _ _ _ _ _ c.requires.held)
+pub bounds-reference_ends-i : goal.bounds-reference_ends-i
+bounds-reference_ends-i c = omega (arith, ends-inside _ _ _ _ _ _ c.requires.held)
 
 pub resolve_entry-place-requires : goal.resolve_entry-place-requires
 resolve_entry-place-requires c = let k = c.requires in turning-ready _ _ _ _ _ _ k.held _ _ _ _ (c.loop-i.invariant k.rows k.held) c.loop-i-test.true
