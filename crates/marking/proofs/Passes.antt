@@ -14,7 +14,7 @@ use Rattle.readers.specs.Choice.{◌or◌}
 use Rattle.readers.specs.Nesting.{no_parent}
 use Rattle.marking.specs.Graph.{Graph, size, is_root, references, holder, parent_fits, pair_fits}
 use Rattle.marking.specs.Survivors.{Survivor, parent, Live, live_named}
-use Rattle.marking.specs.Inner.Passes.{sum, Sound, Pass, WithParents, WithPairs, WithBoth, DownAt, AlongAt, UpAt, Down, Along, Up, Settled, ParentsFit, PairsFit}
+use Rattle.marking.specs.Inner.Passes.{sum, Sound, Pass, WithParents, WithPairs, DownAt, AlongAt, UpAt, ParentsFit, PairsFit}
 use Rattle.marking.proofs.Tests.{every-at}
 use Rattle.marking.proofs.Graphs.{parent_in, names_in_lem, parent-fits, pair_fits_lem}
 use Rattle.marking.proofs.Survivors.{live-kept, live-down}
@@ -186,25 +186,6 @@ turned_up On A m₀ m m' n i a b r pos p q e =
 
 pub weaken : {On On' : Graph → Type 0} {C D : Type 0} {m m' : List ℕ} {r : Bool} → Pass On C m m' r → ((g : Graph) → On' g → On g) → (C → D) → Pass On' D m m' r
 weaken p o f = record { spread = record { sound = λ g h s. p.spread.sound g (o g h) s }; more = p.more; same = p.same; done = λ e. f (p.done e) }
-
--- a round: the three passes
-pub rounded : (ps rs m m₁ m₂ m₃ : List ℕ) (a b c r : Bool) → Pass (WithParents ps) (Down ps m) m m₁ a → Pass (WithPairs rs) (Along rs m₁) m₁ m₂ b → Pass (WithParents ps) (Up ps m₂) m₂ m₃ c → r ≡ ((a or b) or c) → Pass (WithBoth ps rs) (Settled ps rs m) m m₃ r
-rounded ps rs m m₁ m₂ m₃ a b c r p q s e =
-    after (WithBoth ps rs) (Down ps m × Along rs m) (Up ps) (Settled ps rs) m m₂ m₃ (λ d u. record { down = d.0; along = d.1; up = u }) (a or b) c r
-    (after (WithBoth ps rs) (Down ps m) (Along rs) (λ n. Down ps n × Along rs n) m m₁ m₂ (λ d l. (d, l)) a b (a or b) (weaken p (λ g o. o.0) (λ d. d)) (weaken q (λ g o. o.1) (λ l. l)) refl)
-    (weaken s (λ g o. o.0) (λ u. u)) e
-
-pub or-first : (b c : Bool) {a : Bool} → a ≡ true → true ≡ ((a or b) or c)
-unfolding ◌or◌
-or-first b c p = rw p
-
-pub or-second : (c : Bool) {a b : Bool} → a ≡ false → b ≡ true → true ≡ ((a or b) or c)
-unfolding ◌or◌
-or-second c p q = rw (p, q)
-
-pub or-third : {a b : Bool} (c : Bool) → a ≡ false → b ≡ false → c ≡ ((a or b) or c)
-unfolding ◌or◌
-or-third c p q = rw (p, q)
 
 pub pairs-fit-still : (rs m m' : List ℕ) → PairsFit rs m → length m' ≡ length m → PairsFit rs m'
 pairs-fit-still rs m m' w e = rw e w

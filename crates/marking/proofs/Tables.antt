@@ -4,8 +4,7 @@ use mathlib.Core.Path.{◌≡◌, refl, sym, ap, subst, ◌∙◌}
 use mathlib.Core.List.{List, ◌∷◌}
 use mathlib.Core.Bool.{Bool, true, false, cond}
 use mathlib.Core.Logic.{⊎_elim}
-use native.Mathlib.Nat.{le_antisymm, not-suc-le-zero, le_of_suc-le-suc, eq-or-lt_of_le}
-use native.Mathlib.Numerals.{add-one}
+use native.Mathlib.Nat.{not-suc-le-zero, le_of_suc-le-suc, eq-or-lt_of_le}
 use native.Mathlib.Omega.{arith}
 use lib.ListN.{length, get_or, set}
 use lib.Seq.{get_or-set_same, get_or-set_other, ext_get_or}
@@ -44,17 +43,6 @@ made_all f m n i s l h = ext_get_or 0 m (tab n f) (l ∙ sym (length-tab n f)) (
 pub count_none : (f : ℕ → Bool) → 0 ≡ count 0 f
 unfolding count
 count_none f = refl
-
-pub count_yes : (f : ℕ → Bool) (i n n' : ℕ) → n ≡ count i f → f i ≡ true → n' ≡ n + 1 → n' ≡ count (i + 1) f
-unfolding count pick
-count_yes f i n n' e p q = rw (add-one i, p) (omega arith)
-
-pub count_no : (f : ℕ → Bool) (i n n' : ℕ) → n ≡ count i f → f i ≡ false → n' ≡ n → n' ≡ count (i + 1) f
-unfolding count pick
-count_no f i n n' e p q = rw (add-one i, p) (omega arith)
-
-pub count-all : (f : ℕ → Bool) (i n m : ℕ) → n ≡ count i f → i ≤ m → m ≤ i → n ≡ count m f
-count-all f i n m e h k = rw (← le_antisymm h k) e
 
 count-front : (n : ℕ) (f : ℕ → Bool) → count (suc n) f ≡ pick (f 0) 1 0 + count n (λ k. f (suc k))
 unfolding count

@@ -106,20 +106,6 @@ every-at (suc n) f e k h =
     let b = and-out (f n) (every n f) e in
     ⊎_elim (λ (q : k ≡ n). rw q b.0) (λ (l : k < n). every-at n f b.1 k l) (eq-or-lt_of_le (le_of_suc-le-suc h))
 
-pub every-none : (f : ℕ → Bool) → every 0 f ≡ true
-unfolding every
-every-none f = refl
-
-pub every_more : (f : ℕ → Bool) (i : ℕ) → every i f ≡ true → f i ≡ true → every (i + 1) f ≡ true
-unfolding every ◌and◌
-every_more f i p q = rw (add-one, p, q)
-
-pub every-fails : (f : ℕ → Bool) (n i : ℕ) → i < n → f i ≡ false → false ≡ every n f
-every-fails f n i h e = sym (by-true (every n f) (λ p. not-both (every-at n f p i h) e))
-
-pub every-all : (f : ℕ → Bool) (n i : ℕ) → every i f ≡ true → i ≤ n → n ≤ i → true ≡ every n f
-every-all f n i e h k = rw (← le_antisymm h k) (sym e)
-
 pub every_in : (n : ℕ) (f : ℕ → Bool) → ((k : ℕ) → k < n → f k ≡ true) → every n f ≡ true
 unfolding every
 every_in zero f h = refl

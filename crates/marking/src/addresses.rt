@@ -14,19 +14,11 @@ pub enum AddressLookup {
 pub fn is_tombstone(address: u64, size: u8) -> bool
     ensures { result ≡ is_tombstone address size }
 {
-    if size == 4 {
-        if address == 0 {
-            return true;
-        }
-        return address == 0xffff_ffff;
+    match size {
+        4 => matches!(address, 0 | 0xffff_ffff),
+        8 => matches!(address, 0 | 0xffff_ffff_ffff_ffff),
+        _ => false,
     }
-    if size == 8 {
-        if address == 0 {
-            return true;
-        }
-        return address == 0xffff_ffff_ffff_ffff;
-    }
-    false
 }
 
 // An index of the address table, one byte an index: 0 dead, 1 live; any other byte fails with 6, an index past its end

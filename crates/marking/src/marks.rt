@@ -172,6 +172,7 @@ pub(crate) fn mark_with(
     }
     start(roots, marks);
     spread(parents, pairs, marks, work, reference_ends);
+    // No for: the first round that raises no mark is the last.
     while round(parents, pairs, marks) {}
     end_first(pairs, marks);
     Marked::Kept(count_kept(marks))

@@ -84,6 +84,7 @@ pub fn ranges_has_live_entry(ranges: &[u8], start: Cursor, e: Encoding) -> Verdi
     ensures { result ≡ older_live e ranges.now (At start) }
 {
     let mut c = start;
+    // No for: the reader moves the cursor on.
     loop {
         match c.list_entry(ranges, false, e) {
             ListStep::Entry(x) => {
@@ -120,10 +121,7 @@ pub fn range_pair(dead: bool, r: Operands, e: Encoding) -> RangeTurn
     } else if begin_dead {
         return RangeTurn::On(is_tombstone(end, e.address_size));
     }
-    if dead {
-        return RangeTurn::On(dead);
-    }
-    if begin_dead {
+    if dead || begin_dead {
         return RangeTurn::On(dead);
     }
     RangeTurn::Decided(Verdict::Live)
@@ -135,6 +133,7 @@ pub fn pairs_live(ranges: &[u8], start: Cursor, e: Encoding) -> Verdict
 {
     let mut c = start;
     let mut base_dead = false;
+    // No for: the reader moves the cursor on.
     while c.at < ranges.len() {
         let OperandsRead::Read(r) = c.row(ranges, ROW_ADDRESS_ADDRESS, e) else {
             return Verdict::Refused(5);
@@ -168,16 +167,10 @@ pub fn operation_live(
     if op.row == ROW_ADDRESS_INDEX {
         return lookup(table, first.value);
     }
-    if !fixed_addresses {
-        return AddressLookup::Dead;
+    if fixed_addresses && op.row == ROW_ADDRESS && !is_tombstone(first.value, e.address_size) {
+        return AddressLookup::Live;
     }
-    if op.row != ROW_ADDRESS {
-        return AddressLookup::Dead;
-    }
-    if is_tombstone(first.value, e.address_size) {
-        return AddressLookup::Dead;
-    }
-    AddressLookup::Live
+    AddressLookup::Dead
 }
 
 // Whether a variable's location holds a live index of the address table or, where fixed addresses count, an address
@@ -187,6 +180,7 @@ pub fn location_expr_live(s: &[u8], table: &[u8], fixed_addresses: bool, e: Enco
 {
     let mut c = Cursor { at: 0 };
     let mut live = false;
+    // No for: the reader moves the cursor on.
     while c.at < s.len() {
         let OperationRead::Read(op) = c.operation(s, e) else {
             return Verdict::Refused(5);
@@ -221,15 +215,11 @@ pub fn low_pc(v: Attribute, table: &[u8], e: Encoding) -> Verdict
         }
         return Verdict::Live;
     }
-    if form != DW_FORM_addrx {
-        if form < DW_FORM_addrx1 {
-            return Verdict::Live;
-        }
-        if form > DW_FORM_addrx4 {
-            if form != DW_FORM_GNU_addr_index {
-                return Verdict::Live;
-            }
-        }
+    let indexed = form == DW_FORM_addrx
+        || (form >= DW_FORM_addrx1 && form <= DW_FORM_addrx4)
+        || form == DW_FORM_GNU_addr_index;
+    if !indexed {
+        return Verdict::Live;
     }
     match lookup(table, field.value) {
         AddressLookup::Live => Verdict::Live,
@@ -254,6 +244,7 @@ pub fn low_pcs(
 {
     let mut p = specs;
     let mut c = values;
+    // No for: two cursors move, as their readers say.
     loop {
         let NextAttribute::More(a) = next_named(unit, abbreviations, p, c, DW_AT_low_pc, e) else {
             return Verdict::Dead;
@@ -290,6 +281,7 @@ pub fn locations_live(
 {
     let mut p = specs;
     let mut c = values;
+    // No for: two cursors move, as their readers say.
     loop {
         let NextAttribute::More(a) = next_named(unit, abbreviations, p, c, DW_AT_location, e) else {
             return Verdict::Dead;
@@ -360,6 +352,7 @@ pub fn first_ranges(
     let mut p = specs;
     let mut c = values;
     let mut verdict = Verdict::Dead;
+    // No for: two cursors move, as their readers say; in a list one.
     'attributes: loop {
         match p.attribute_spec(abbreviations) {
             SpecStep::Attribute(a) => {
@@ -490,6 +483,7 @@ pub fn base_after(
     let mut p = specs;
     let mut c = values;
     let mut latest = base;
+    // No for: two cursors move, as their readers say.
     loop {
         let NextAttribute::More(a) = next_named(unit, abbreviations, p, c, name, e) else {
             return latest;
