@@ -6,8 +6,8 @@ use native.Mathlib.Omega.{arith}
 use mathlib.Core.List.{List, [], ◌∷◌}
 use mathlib.Core.Option.{none, some}
 use mathlib.Core.Logic.{⊎_elim}
-use lib.ListN.{length, get_or, take}
-use lib.Seq.{length-take-le, get_or-take}
+use lib.ListN.{length, get_or}
+use lib.Seq.{take-length}
 use borrow.Author.Tests.{tests}
 use mir.Facts.{yes_eqb, no_eqb}
 use Rattle.std.specs.Cmp.{ranks}
@@ -60,28 +60,22 @@ module _ {X : Type 0} (n : X → ℕ) (xs : List X) (t : ℕ) where
 
 -- ---- an offset
 
-module _ (offsets : List ℕ) (n t : ℕ) (s : Searched offsets n) where
-  inside : n ≤ length offsets
-  inside = s.inside
+module _ (offsets : List ℕ) (t : ℕ) (s : Searched offsets (length offsets)) where
+  ascending : Ascending 0 offsets
+  ascending = subst (Ascending 0) (take-length offsets) s.ascending
 
-  count : length (take n offsets) ≡ n
-  count = length-take-le n offsets inside
-
-  rise : IsNonDecreasingBy (λ x. x) (take n offsets)
+  rise : IsNonDecreasingBy (λ x. x) offsets
   rise i j d h l =
       ⊎_elim
       (λ (e : i ≡ j). rw e (omega arith))
-      (λ (w : i < j). omega (arith, ascending-at 0 (take n offsets) s.ascending i j w l, get_or_default (take n offsets) i d 0 (omega arith), get_or_default (take n offsets) j d 0 l))
+      (λ (w : i < j). omega (arith, ascending-at 0 offsets ascending i j w l, get_or_default offsets i d 0 (omega arith), get_or_default offsets j d 0 l))
       (eq-or-lt_of_le h)
 
-  pub entry-at : (m : ℕ) → m < length (take n offsets) → get_or (take n offsets) m 0 ≡ t → Entry (record { 0 = m }) ≡ as_entry (entry_from 0 (take n offsets) t)
+  pub entry-at : (m : ℕ) → m < length offsets → get_or offsets m 0 ≡ t → Entry (record { 0 = m }) ≡ as_entry (entry_from 0 offsets t)
   unfolding as_entry
   entry-at m l q =
-      sym (ap as_entry (entry-some 0 0 (take n offsets) t s.ascending m l q ∙ ap (λ (k : ℕ). some k) (let z : 0 + m ≡ m = omega arith in z)))
+      sym (ap as_entry (entry-some 0 0 offsets t ascending m l q ∙ ap (λ (k : ℕ). some k) (let z : 0 + m ≡ m = omega arith in z)))
 
-  pub entry-hinted : (m : ℕ) → m < n → get_or offsets m 0 ≡ t → Entry (record { 0 = m }) ≡ as_entry (entry_from 0 (take n offsets) t)
-  entry-hinted m l q = entry-at m (omega (arith, count)) (get_or-take n offsets m 0 l ∙ q)
-
-  pub entry-nowhere : (i : ℕ) → IsBinarySearchResult (λ y. nat_cmp y t) (take n offsets) (Err i) → Nothing ≡ as_entry (entry_from 0 (take n offsets) t)
+  pub entry-nowhere : (i : ℕ) → IsBinarySearchResult (λ y. nat_cmp y t) offsets (Err i) → Nothing ≡ as_entry (entry_from 0 offsets t)
   unfolding as_entry
-  entry-nowhere i h = sym (ap as_entry (entry-none 0 (take n offsets) t (λ k l q. key-missing (λ x. x) (take n offsets) t i h rise k 0 l q)))
+  entry-nowhere i h = sym (ap as_entry (entry-none 0 offsets t (λ k l q. key-missing (λ x. x) offsets t i h rise k 0 l q)))

@@ -36,12 +36,12 @@ pub enum EntryFound {
     Nothing,
 }
 
-// The entry that starts at an offset, among the first entries of a table in ascending order.
-fn find_entry(offsets: &[u64], entries: usize, target: UnitOffset) -> EntryFound
-    requires { Searched offsets.now entries }
-    ensures { result ≡ as_entry (entry_from 0 (take entries offsets.now) target.0) }
+// The entry that starts at an offset, among those of entries in ascending order.
+fn find_entry(offsets: &[u64], target: UnitOffset) -> EntryFound
+    requires { Searched offsets.now (length offsets.now) }
+    ensures { result ≡ as_entry (entry_from 0 offsets.now target.0) }
 {
-    match offsets[..entries].binary_search(&target.0) {
+    match offsets.binary_search(&target.0) {
         Ok(i) => EntryFound::Entry(EntryIndex(i as u64)),
         Err(_) => EntryFound::Nothing,
     }
@@ -72,10 +72,8 @@ fn put_hint(hints: &mut [u32], at: usize, hint: u32) {
 }
 
 // The numbers of the entries that 32 bits have room for, each in the bucket of its offset; of several the last stays.
-fn fill_hints(offsets: &[u64], entries: usize, hints: &mut [u32], shift: u32)
-    requires { entries ≤ length offsets.now }
-{
-    for i in 0..entries.min(0x1_0000_0000) {
+fn fill_hints(offsets: &[u64], hints: &mut [u32], shift: u32) {
+    for i in 0..offsets.len().min(0x1_0000_0000) {
         put_hint(hints, bucket(UnitOffset(offsets[i]), shift), i as u32);
     }
 }
@@ -100,44 +98,34 @@ fn guess(offsets: &[u64], target: UnitOffset, hints: &[u32], shift: u32) -> usiz
 }
 
 // The entry that starts at an offset, as find_entry has it; looked for first where the hints say.
-fn find_hinted(
-    offsets: &[u64],
-    entries: usize,
-    target: UnitOffset,
-    hints: &[u32],
-    shift: u32,
-) -> EntryFound
-    requires { Searched offsets.now entries }
-    ensures { result ≡ as_entry (entry_from 0 (take entries offsets.now) target.0) }
+fn find_hinted(offsets: &[u64], target: UnitOffset, hints: &[u32], shift: u32) -> EntryFound
+    requires { Searched offsets.now (length offsets.now) }
+    ensures { result ≡ as_entry (entry_from 0 offsets.now target.0) }
 {
     let i = guess(offsets, target, hints, shift);
-    if i < entries && offsets[i] == target.0 {
+    if i < offsets.len() && offsets[i] == target.0 {
         return EntryFound::Entry(EntryIndex(i as u64));
     }
-    find_entry(offsets, entries, target)
+    find_entry(offsets, target)
 }
 
 // The pairs of an entry's references, from a place of the pairs on; one that names no entry makes none.
 fn resolve_entry(
     offsets: &[u64],
-    entries: usize,
-    targets: &[u64],
-    from: usize,
-    to: usize,
+    names: &[u64],
     holder: EntryIndex,
     pairs: &mut [u64],
     at: usize,
     hints: &[u32],
     shift: u32,
 ) -> usize
-    requires { ResolveInput offsets.now entries targets.now from to pairs.old at }
-    ensures { let names = take (to - from) (drop from targets.now) in
-        let found = pairs_of_entry (take entries offsets.now) holder.0 names in
+    requires { ResolveInput offsets.now (length offsets.now) names.now 0 (length names.now) pairs.old at }
+    ensures { let found = pairs_of_entry offsets.now holder.0 names.now in
         (2 * result ≡ 2 * at + length found) × (pairs.new ≡ put pairs.old (2 * at) found) }
 {
     let mut place = at;
-    for j in from..to {
-        match find_hinted(offsets, entries, UnitOffset(targets[j]), hints, shift) {
+    for name in names {
+        match find_hinted(offsets, UnitOffset(*name), hints, shift) {
             EntryFound::Entry(named) => {
                 pairs[2 * place] = holder.0;
                 pairs[2 * place + 1] = named.0;
@@ -169,24 +157,17 @@ fn resolve(
         targets.now pairs.old
         → pairs.new ≡ pad_to (length pairs.old) (pairs_in rows) }
 {
+    let starts = &offsets[..entries];
     let mut place: usize = 0;
     let mut from: usize = 0;
     for i in 0..entries {
         let holder = EntryIndex(i as u64);
         let to = reference_ends[i] as usize;
-        place = resolve_entry(
-            offsets, entries, targets, from, to, holder, pairs, place, hints, shift,
-        );
+        let names = &targets[from..to];
+        place = resolve_entry(starts, names, holder, pairs, place, hints, shift);
         from = to;
     }
     place
-}
-
-// The last offset of entries in ascending order, 0 where there are none.
-fn last_offset(offsets: &[u64], entries: usize) -> u64
-    requires { entries ≤ length offsets.now }
-{
-    offsets[..entries].last().map_or(0, |offset| *offset)
 }
 
 // The first places of a table made zeros.
@@ -220,8 +201,10 @@ fn resolve_by_hints(
         → pairs.new ≡ pad_to (length pairs.old) (pairs_in rows) }
 {
     let room = hint_room(work.len(), entries);
-    let shift = shift_for(last_offset(offsets, entries), room);
-    fill_hints(offsets, entries, work, shift);
+    let starts = &offsets[..entries];
+    let last = starts.last().map_or(0, |offset| *offset);
+    let shift = shift_for(last, room);
+    fill_hints(starts, work, shift);
     let n = resolve(
         offsets,
         reference_ends,
