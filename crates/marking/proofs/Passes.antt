@@ -1,16 +1,13 @@
--- One store that raises a mark, and passes after each other.
-use Prim.Native.Nat.{ℕ, zero, suc, ◌+◌, ◌*◌, ◌/◌, ◌-◌, ◌≤◌, ◌<◌}
-use mathlib.Core.Path.{◌≡◌, refl, subst, ◌∙◌}
+-- One store that raises a mark, and what finds nothing to raise.
+use Prim.Native.Nat.{ℕ, zero, suc, ◌+◌, ◌*◌, ◌/◌, ◌≤◌, ◌<◌}
+use mathlib.Core.Path.{◌≡◌, refl, ◌∙◌}
 use mathlib.Core.List.{List, [], ◌∷◌}
-use mathlib.Core.Bool.{Bool, true, false, true≢false, false≢true, ◌||◌}
-use mathlib.Core.Logic.{⊎_elim}
-use native.Mathlib.Nat.{not-suc-le-zero, le_of_suc-le-suc, eq-or-lt_of_le}
+use mathlib.Core.Bool.{true, false, true≢false, false≢true}
+use native.Mathlib.Nat.{not-suc-le-zero, le_of_suc-le-suc}
 use native.Mathlib.Omega.{arith}
 use native.Mathlib.Decide.{ℕ_discrete}
-use borrow.Author.Count.{below_more}
 use lib.ListN.{length, get_or, set, length-set}
 use lib.Seq.{get_or-set_same, get_or-set_other}
-use Rattle.readers.specs.Choice.{◌or◌}
 use Rattle.readers.specs.Nesting.{no_parent}
 use Rattle.marking.specs.Graph.{Graph, size, is_root, references, holder, parent_fits, pair_fits}
 use Rattle.marking.specs.Survivors.{Survivor, parent, Live, live_named}
@@ -18,7 +15,6 @@ use Rattle.marking.specs.Inner.Passes.{sum, Sound, Pass, WithParents, WithPairs,
 use Rattle.marking.proofs.Tests.{every-at}
 use Rattle.marking.proofs.Graphs.{parent_in, names_in_lem, parent-fits, pair_fits_lem}
 use Rattle.marking.proofs.Survivors.{live-kept, live-down}
-use Rattle.marking.proofs.Spreads.{spread-on}
 
 -- the marks with v at k
 data At (m : List ℕ) (k v i : ℕ) : Type 0 where
@@ -81,24 +77,6 @@ idle c = record { spread = record { sound = λ g o s. s }; more = λ e. absurd (
 -- a mark is raised
 pub raise : {On : Graph → Type 0} {C : Type 0} (m : List ℕ) (k v : ℕ) → k < length m → get_or m k 0 < v → ((g : Graph) → On g → Sound g m → Sound g (set m k v)) → Pass On C m (set m k v) true
 raise m k v h l f = record { spread = record { sound = f }; more = λ e. sum-set m k v h l; same = λ e. absurd (true≢false e); done = λ e. absurd (true≢false e) }
-
--- one pass after another
-module _ (On : Graph → Type 0) (C : Type 0) (D E : List ℕ → Type 0) (m m' m'' : List ℕ) (f : C → D m → E m) where
-  then : (a b : Bool) → Pass On C m m' a → Pass On (D m') m' m'' b → Pass On (E m) m m'' (a or b)
-  unfolding ◌or◌
-  then true true p q = record { spread = spread-on p.spread q.spread; more = λ e. omega (arith, p.more refl, q.more refl); same = λ e. absurd (true≢false e); done = λ e. absurd (true≢false e) }
-  then true false p q = record { spread = spread-on p.spread q.spread; more = λ e. rw (q.same refl) (p.more refl); same = λ e. absurd (true≢false e); done = λ e. absurd (true≢false e) }
-  then false true p q = record { spread = spread-on p.spread q.spread; more = λ e. rw (← p.same refl) (q.more refl); same = λ e. absurd (true≢false e); done = λ e. absurd (true≢false e) }
-  then false false p q = record { spread = spread-on p.spread q.spread; more = λ e. absurd (false≢true e); same = λ e. q.same refl ∙ p.same refl; done = λ e. f (p.done refl) (subst D (p.same refl) (q.done refl)) }
-
-  -- the answer is that something changed in one of them
-  pub after : (a b r : Bool) → Pass On C m m' a → Pass On (D m') m' m'' b → r ≡ (a or b) → Pass On (E m) m m'' r
-  after a b r p q e = rw e (then a b p q)
-
-pub or-same : (a b : Bool) → (a || b) ≡ (a or b)
-unfolding ◌or◌
-or-same true b = refl
-or-same false b = refl
 
 -- what a look at a parent or a pair finds is an entry
 pub parent-before : (ps m : List ℕ) (i : ℕ) → ParentsFit ps m → i < length m → (get_or ps i 0 ≡ no_parent → ⊥) → get_or ps i 0 < length m
@@ -172,20 +150,6 @@ module _ (rs m : List ℕ) (j : ℕ) where
 
       sound : (g : Graph) → g.pairs ≡ rs → Sound g m → Sound g (set m (get_or rs (2 * j + 1) 0) 3)
       sound g o s = raised g m (get_or rs (2 * j + 1) 0) 3 s in-m (omega arith) l (live-kept (live g o s)) (λ _. live g o s)
-
--- a turn at i, after turns at all below i
-pub turned : (On : Graph → Type 0) (A : List ℕ → ℕ → Type 0) (m₀ m m' : List ℕ) (i : ℕ) (a b r : Bool) → Pass On ((k : ℕ) → k < i → A m₀ k) m₀ m a → Pass On (A m i) m m' b → r ≡ (a or b) → Pass On ((k : ℕ) → k < i + 1 → A m₀ k) m₀ m' r
-turned On A m₀ m m' i a b r p q e =
-    after On ((k : ℕ) → k < i → A m₀ k) (λ n. A n i) (λ n. (k : ℕ) → k < i + 1 → A n k) m₀ m m' (λ f h. below_more (A m₀) i f h) a b r p q e
-
--- a turn at i, after turns at all above i
-pub turned_up : (On : Graph → Type 0) (A : List ℕ → ℕ → Type 0) (m₀ m m' : List ℕ) (n i : ℕ) (a b r : Bool) → 0 < i → Pass On ((k : ℕ) → i ≤ k → k < n → A m₀ k) m₀ m a → Pass On (A m (i - 1)) m m' b → r ≡ (a or b) → Pass On ((k : ℕ) → i - 1 ≤ k → k < n → A m₀ k) m₀ m' r
-turned_up On A m₀ m m' n i a b r pos p q e =
-    after On ((k : ℕ) → i ≤ k → k < n → A m₀ k) (λ l. A l (i - 1)) (λ l. (k : ℕ) → i - 1 ≤ k → k < n → A l k) m₀ m m'
-    (λ f h k low high. ⊎_elim (λ (x : i - 1 ≡ k). rw (← x) h) (λ (x : i - 1 < k). f k (omega arith) high) (eq-or-lt_of_le low)) a b r p q e
-
-pub weaken : {On On' : Graph → Type 0} {C D : Type 0} {m m' : List ℕ} {r : Bool} → Pass On C m m' r → ((g : Graph) → On' g → On g) → (C → D) → Pass On' D m m' r
-weaken p o f = record { spread = record { sound = λ g h s. p.spread.sound g (o g h) s }; more = p.more; same = p.same; done = λ e. f (p.done e) }
 
 pub pairs-fit-still : (rs m m' : List ℕ) → PairsFit rs m → length m' ≡ length m → PairsFit rs m'
 pairs-fit-still rs m m' w e = rw e w

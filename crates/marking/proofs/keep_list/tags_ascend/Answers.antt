@@ -1,11 +1,8 @@
 -- `tags_ascend` asks for each tag: what is left decides. Assumes nothing.
-use mathlib.Core.Path.{refl, ◌∙◌}
+use mathlib.Core.Path.{◌∙◌}
 use native.Mathlib.Omega.{arith}
 use Rattle.marking.proofs.KeepLists.{tag_listed, tag_below, ascends-end, ascends-no, ascends-more}
 use Rattle.marking.proofs.keep_list.tags_ascend.Goals as goal
-
-pub loop-bytes-init : goal.loop-bytes-init
-loop-bytes-init c = refl
 
 pub returns-then-tag-least : goal.returns-then-tag-least
 returns-then-tag-least c =

@@ -6,9 +6,6 @@ use Rattle.marking.proofs.units.resolve.Goals as goal
 pub loop-i-init : goal.loop-i-init
 loop-i-init c = λ rows h. turning-start _ _ _ _ _ rows h
 
-pub offset_bounds-reference_ends-i : goal.offset_bounds-reference_ends-i
-offset_bounds-reference_ends-i c = omega (arith, ends-inside _ _ _ _ _ _ c.requires.held)
-
 pub bounds-reference_ends-i : goal.bounds-reference_ends-i
 bounds-reference_ends-i c = omega (arith, ends-inside _ _ _ _ _ _ c.requires.held)
 
