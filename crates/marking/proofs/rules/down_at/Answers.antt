@@ -1,18 +1,12 @@
--- `down_at` meets its contract, one case for each test. Assumes nothing.
-use Rattle.marking.proofs.Passes.{parent-before, down-none, down-low, down-high, down-raise}
+-- `down_at` meets its contract: there is no parent, or its mark asks for one. Assumes nothing.
+use Rattle.marking.proofs.Passes.{parent-before, down-none, down-pass}
 use Rattle.marking.proofs.rules.down_at.Goals as goal
-use Rattle.marking.proofs.rules.down_at.Goals.{then-p-via-then-p, then-p-via-else-p+then-marks-p-lt3, then-p-via-else-p+else-marks-p-lt3+then-marks-i-ge3}
 
-pub bounds-marks-p : goal.bounds-marks-p
-bounds-marks-p c = search parent-before
+pub raise-requires-clause-s_in_bounds : goal.raise-requires-clause-s_in_bounds
+raise-requires-clause-s_in_bounds c = search parent-before
 
 pub returns-then-p : goal.returns-then-p
-returns-then-p c =
-    elim c.then-p.branch [
-      | then-p-via-then-p w ↦ search down-none
-      | then-p-via-else-p+then-marks-p-lt3 w ↦ search down-low
-      | then-p-via-else-p+else-marks-p-lt3+then-marks-i-ge3 w ↦ search down-high
-    ]
+returns-then-p c = search down-pass
 
-pub returns : goal.returns
-returns c = search down-raise
+pub returns-else-p : goal.returns-else-p
+returns-else-p c = search down-none

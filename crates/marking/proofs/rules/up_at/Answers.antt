@@ -1,23 +1,12 @@
--- `up_at` meets its contract, one case for each test. Assumes nothing.
-use Rattle.marking.proofs.Passes.{parent-before, up_none, up-low, up-high, up-raise}
+-- `up_at` meets its contract: there is no parent, or it gets the mark that is asked. Assumes nothing.
+use Rattle.marking.proofs.Passes.{parent-before, up_none, up-pass}
 use Rattle.marking.proofs.rules.up_at.Goals as goal
-use Rattle.marking.proofs.rules.up_at.Goals.{then-p-via-then-p, then-p-via-else-p+then-marks-p-ge2}
 
-pub returns-then-marks-i-lt2 : goal.returns-then-marks-i-lt2
-returns-then-marks-i-lt2 c = search up-low
-
-pub bounds-marks-p : goal.bounds-marks-p
-bounds-marks-p c = search parent-before
+pub raise-requires-clause-t_in_bounds : goal.raise-requires-clause-t_in_bounds
+raise-requires-clause-t_in_bounds c = search parent-before
 
 pub returns-then-p : goal.returns-then-p
-returns-then-p c =
-    elim c.then-p.branch [
-      | then-p-via-then-p w ↦ search up_none
-      | then-p-via-else-p+then-marks-p-ge2 w ↦ search up-high
-    ]
+returns-then-p c = search up-pass
 
-pub bounds-marks-p-2 : goal.bounds-marks-p-2
-bounds-marks-p-2 c = search parent-before
-
-pub returns : goal.returns
-returns c = search up-raise
+pub returns-else-p : goal.returns-else-p
+returns-else-p c = search up_none
