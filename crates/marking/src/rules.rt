@@ -39,13 +39,9 @@ pub(crate) fn along_at(pairs: &[u64], marks: &mut [u8], j: usize) -> bool
         (AlongAt pairs.now marks.old j)
         marks.old marks.new result }
 {
-    raise(
-        marks,
-        pairs[2 * j] as usize,
-        2,
-        pairs[2 * j + 1] as usize,
-        3,
-    )
+    let s = pairs[2 * j] as usize;
+    let t = pairs[2 * j + 1] as usize;
+    raise(marks, s, 2, t, 3)
 }
 
 // The parent of entry i is retained where i is kept.
