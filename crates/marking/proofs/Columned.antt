@@ -4,7 +4,8 @@ use Prim.Native.Nat.{ℕ, zero, suc, ◌+◌, ◌*◌, ◌-◌, ◌≤◌, ◌<�
 use native.Mathlib.Omega.{arith}
 use mathlib.Core.List.{List, [], ◌∷◌, ◌++◌, append_assoc, append-nil}
 use lib.ListN.{length, get_or, take, drop, length-append, take-append-drop}
-use lib.Seq.{get_or-take, get_or_at, take_at, drop-append-add, take-append_seam, drop-append_seam, append_snoc}
+use lib.Seq.{get_or-take, get_or_at, take_at, drop-append-add, take-length, take-append_seam, drop-append_seam, append_snoc}
+use Rattle.std.proofs.lemmas.List.{length-take}
 use Rattle.readers.specs.Choice.{zeros, put}
 use Rattle.marking.specs.Analysis.{EntryRow, Rooms}
 use Rattle.marking.specs.Columns.{offsets_in, names_in, ends_in, pad_to}
@@ -183,14 +184,24 @@ module _ (offsets ends : List ℕ) (n : ℕ) (targets pairs₀ : List ℕ) (rows
           ∙ end_is p.done next.rest next.row split
           ∙ ap (λ (k : ℕ). k + length next.row.names) (sym p.names)
 
-      pub turning-ready : ResolveInput offsets n targets from (get_or ends i 0) pairs place
-      turning-ready =
+      -- the row's references stand inside the table
+      pub turning-forward : from ≤ get_or ends i 0
+      turning-forward = omega (arith, to_is)
+
+      pub turning-inside : get_or ends i 0 ≤ length targets
+      turning-inside = omega (arith, to_is, names-few p.done next.rest next.row split, names-inside, p.names)
+
+      pub turning-ready : (os names : List ℕ) → os ≡ take n offsets → names ≡ take (get_or ends i 0 - from) (drop from targets)
+          → ResolveInput os (length os) names 0 (length names) pairs place
+      turning-ready os names e f =
           let few = names-few p.done next.rest next.row split in
           let t : get_or ends i 0 ≡ from + length next.row.names = to_is in
+          let o : Ascending 0 os = rw e h.searched.ascending in
+          let m : length names ≤ get_or ends i 0 - from = rw f (omega (arith, length-take (get_or ends i 0 - from) (drop from targets))) in
           record {
-            searched = h.searched;
+            searched = record { inside = omega arith; ascending = rw (take-length os) o };
             forward = omega arith;
-            inside = omega (arith, few, names-inside, p.names);
+            inside = omega arith;
             room = omega (arith, few, p.names, p.count, p.size, h.room, pairs-most (offsets_in rows) 0 p.done);
           }
 

@@ -2,27 +2,33 @@
 -- Assumes nothing.
 use mathlib.Core.Path.{◌≡◌, refl, ap₂, sym, ◌∙◌}
 use Prim.Native.Nat.{ℕ, zero, suc, ◌+◌, ◌*◌, ◌/◌, ◌≤◌, ◌<◌}
+use native.Mathlib.Nat.{eq-or-lt_of_le}
 use native.Mathlib.Numerals.{add-one}
 use native.Mathlib.Omega.{arith}
-use mathlib.Core.Bool.{Bool, true, false}
+use mathlib.Core.Bool.{Bool, true, false, ◌&&◌}
 use mathlib.Core.List.{List, [], ◌∷◌}
 use mathlib.Core.Logic.{⊎_elim}
 use lib.ListN.{length, get_or, drop, drop_of_length-le}
-use lib.Seq.{drop-cons, take-length}
-use lib.Dec.{eqb}
+use lib.Seq.{drop-cons}
 use borrow.Author.Tests.{leb-true, le-leb, lt-leb, eqb-true, eq-eqb, ne_eqb}
-use Rattle.readers.specs.Choice.{pick, ◌and◌, ◌or◌}
+use Rattle.std.specs.List.{list_all, HoldsAt}
+use Rattle.std.specs.List.Sorted.{IsBinarySearchResult, IsNonDecreasingBy}
+use Rattle.std.specs.Ordering.{nat_cmp}
+use Rattle.std.specs.Simd.{first_chunks}
+use Rattle.std.proofs.Common.{Equal, Err}
+use Rattle.std.proofs.lemmas.List.{get_or_default}
+use Rattle.readers.specs.Choice.{pick, ◌and◌}
 use Rattle.readers.proofs.Lebs.{Bytes}
 use Rattle.marking.specs.KeepList.{KeepList, tags_in, keep_in, is_treatment, each_treats, ascends, keep_refusal}
 use Rattle.marking.specs.KeepList.{treatment_in, treated}
 use Rattle.marking.specs.Resolution.{Ascending}
-use Rattle.marking.specs.Inner.Resolution.{Searched}
-use Rattle.std.specs.Prelude.{Err, Ok, Result}
+use Rattle.std.specs.Prelude.{Ok, Result}
 use Rattle.marking.specs.declared.addresses.Verdict.{Verdict}
 use Rattle.marking.specs.declared.addresses.Verdict.TheVariants.{Live, Dead}
-use Rattle.marking.proofs.Tests.{and-out, split}
-use Rattle.marking.proofs.Rows.{ascending-from}
-use Rattle.marking.proofs.Searches.{Halving}
+use Rattle.marking.proofs.Tests.{and-out}
+use Rattle.marking.proofs.Twos.{two_first, two_second}
+use Rattle.marking.proofs.Searches.{key-found, key-missing}
+use Rattle.marking.proofs.Rows.{ascending-from, ascending-at}
 
 -- ---- the tags in their bytes
 
@@ -46,29 +52,24 @@ tag_in (a ∷ b ∷ s) (suc i) h =
 pub tag_below : (s : List ℕ) → Bytes s → (i t : ℕ) → t ≡ get_or (tags_in s) i 0 → i < length s / 2 → t < 65536
 tag_below s b i t q h = omega (arith, tag_in s i h, b (2 * i), b (2 * i + 1))
 
+-- the bytes of a tag
+abbrev pub tag_worth : List ℕ → ℕ
+tag_worth q = 256 * get_or q 0 0 + get_or q 1 0
+
+module _ (ws : List (List ℕ)) (s : List ℕ) (e : ws ≡ first_chunks 2 (length s / 2) s) where
+  pub tag_listed : (i : ℕ) → i < length s / 2 → tag_worth (get_or ws i []) ≡ get_or (tags_in s) i 0
+  tag_listed i h = rw (two_first ws _ s i e h, two_second ws _ s i e h) (tag_in s i h)
+
 -- ---- treatments
 
-pub always-treats : (k : ℕ) → k ≡ 1 → true ≡ is_treatment k
-unfolding is_treatment ◌or◌
-always-treats k q = rw (eq-eqb k 1 q)
-
-pub others-treat : (k : ℕ) → (k ≡ 1 → ⊥) → eqb k 2 ≡ is_treatment k
-unfolding is_treatment ◌or◌
-others-treat k q = rw (ne_eqb k 1 q)
-
-module _ (ks : List ℕ) (i : ℕ) (so : each_treats ks ≡ each_treats (drop i ks)) where
-  pub treats-end : length ks ≤ i → true ≡ each_treats ks
-  unfolding each_treats
-  treats-end h = rw (so, drop_of_length-le ks h)
-
-  module _ (h : i < length ks) (b : Bool) (here : b ≡ is_treatment (get_or ks i 0)) where
-    pub treats-no : b ≡ false → false ≡ each_treats ks
-    unfolding each_treats ◌and◌
-    treats-no q = rw (so, drop-cons ks i 0 h, sym here, q)
-
-    pub treats-more : b ≡ true → each_treats ks ≡ each_treats (drop (i + 1) ks)
-    unfolding each_treats ◌and◌
-    treats-more q = rw (so, drop-cons ks i 0 h, sym here, q, add-one)
+pub treats-list : (ks : List ℕ) → list_all is_treatment ks ≡ each_treats ks
+unfolding each_treats ◌and◌
+treats-list [] = refl
+treats-list (k ∷ ks) = both (is_treatment k) (treats-list ks)
+  where
+    both : (b : Bool) {x y : Bool} → x ≡ y → (b && x) ≡ (b and y)
+    both true e = e
+    both false e = refl
 
 -- ---- tags that ascend
 
@@ -168,24 +169,32 @@ module _ (tags ks : List ℕ) (ok : keep_refusal (keep_in tags ks) ≡ 0) where
   ascending : Ascending 0 (tags_in tags)
   ascending = ascends-ascending 0 (tags_in tags) (taken _ ok).ascending
 
-  pub taken-searched : Searched (tags_in tags) (length ks)
-  taken-searched =
-      let c : length ks ≡ length (tags_in tags) = (taken _ ok).counted in
-      record { inside = omega arith; ascending = rw (c, take-length (tags_in tags)) ascending }
+  module _ (ws : List (List ℕ)) (e : ws ≡ first_chunks 2 (length tags / 2) tags) (l : length ws ≡ length tags / 2) where
+    listed-rise : IsNonDecreasingBy tag_worth ws
+    listed-rise i j d h k =
+        let a : tag_worth (get_or ws i []) ≡ get_or (tags_in tags) i 0 = tag_listed ws tags e i (omega arith) in
+        let b : tag_worth (get_or ws j []) ≡ get_or (tags_in tags) j 0 = tag_listed ws tags e j (omega arith) in
+        rw (get_or_default ws i d [] (omega arith), get_or_default ws j d [] k)
+        (⊎_elim
+        (λ (q : i ≡ j). rw q (omega arith))
+        (λ (w : i < j). omega (arith, ascending-at 0 (tags_in tags) ascending i j w (omega (arith, tags-count tags))))
+        (eq-or-lt_of_le h))
 
-  module _ (tag low high : ℕ) (h : Halving (tags_in tags) (length ks) tag low high) where
-    pub treatment-found : (m t : ℕ) → m < high → t ≡ get_or (tags_in tags) m 0 → t ≡ tag
-        → get_or ks m 0 ≡ treatment_in (tags_in tags) ks tag
-    treatment-found m t l here q =
-        treatment-at 0 (tags_in tags) ks tag ascending (taken _ ok).counted m (omega (arith, h.inside)) (sym here ∙ q)
+    pub listed-inside : (i : ℕ) → i < length ws → i < length ks
+    listed-inside i h = omega (arith, taken-count)
 
-    pub treatment-missing : high ≤ low → 0 ≡ treatment_in (tags_in tags) ks tag
-    treatment-missing l =
-        let c : length ks ≡ length (tags_in tags) = (taken _ ok).counted in
-        treatment-none (tags_in tags) ks tag (λ i k q. ⊎_elim
-        (λ (w : i < low). omega (arith, h.before i w))
-        (λ (w : low ≤ i). omega (arith, h.after i (omega arith) (omega arith)))
-        (split i low))
+    pub treatment-found : (tag i : ℕ) → i < length ws → HoldsAt (λ y. nat_cmp (tag_worth y) tag ≡ Equal) ws i
+        → get_or ks i 0 ≡ treatment_in (tags_in tags) ks tag
+    treatment-found tag i h q =
+        treatment-at 0 (tags_in tags) ks tag ascending (taken _ ok).counted i (listed-inside i h)
+        (sym (tag_listed ws tags e i (omega arith)) ∙ key-found tag_worth ws tag i [] q)
+
+    pub treatment-missing : (tag i : ℕ) → IsBinarySearchResult (λ y. nat_cmp (tag_worth y) tag) ws (Err i)
+        → 0 ≡ treatment_in (tags_in tags) ks tag
+    treatment-missing tag i h =
+        treatment-none (tags_in tags) ks tag (λ k m q.
+        let m' : k < length tags / 2 = omega (arith, tags-count tags) in
+        key-missing tag_worth ws tag i h listed-rise k [] (omega arith) (tag_listed ws tags e k m' ∙ q))
 
 -- ---- what a treatment does
 

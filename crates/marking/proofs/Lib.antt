@@ -30,6 +30,7 @@ pub mod UnitAnalyses
 pub mod Rows
 pub mod Searches
 pub mod KeepLists
+pub mod Twos
 pub mod Pairs
 pub mod Columned
 pub mod UnitMarkings

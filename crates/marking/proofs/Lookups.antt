@@ -1,38 +1,17 @@
--- Tombstones and the address table, by the tests that were made. Assumes nothing.
+-- The address table, by the tests that were made. Assumes nothing.
 use mathlib.Core.Path.{◌≡◌}
 use Prim.Native.Nat.{ℕ, ◌≤◌, ◌<◌}
 use native.Mathlib.Omega.{arith}
-use mathlib.Core.Bool.{true, false}
+use mathlib.Core.Bool.{false}
 use mathlib.Core.List.{List}
 use lib.ListN.{length, get_or}
 use lib.Dec.{eqb}
 use borrow.Author.Tests.{lt-ltb, le-ltb, eq-eqb, ne_eqb}
-use Rattle.readers.specs.Choice.{pick, ◌or◌}
-use Rattle.marking.specs.Addresses.{is_tombstone, byte_liveness, lookup_at}
-use Rattle.std.specs.Prelude.{Err, Ok}
+use Rattle.readers.specs.Choice.{pick}
+use Rattle.marking.specs.Addresses.{byte_liveness, lookup_at}
+use Rattle.std.specs.Prelude.{Ok}
 use Rattle.marking.specs.declared.addresses.Verdict.TheVariants.{Dead}
 use Rattle.marking.specs.declared.addresses.Verdict.TheVariants.{Live}
-
-module _ (address size : ℕ) where
-  pub zero-4 : size ≡ 4 → address ≡ 0 → true ≡ is_tombstone address size
-  unfolding is_tombstone pick ◌or◌
-  zero-4 s z = rw (eq-eqb size 4 s, eq-eqb address 0 z)
-
-  pub ones-4 : size ≡ 4 → (address ≡ 0 → ⊥) → eqb address 4294967295 ≡ is_tombstone address size
-  unfolding is_tombstone pick ◌or◌
-  ones-4 s z = rw (eq-eqb size 4 s, ne_eqb address 0 z)
-
-  pub zero-8 : (size ≡ 4 → ⊥) → size ≡ 8 → address ≡ 0 → true ≡ is_tombstone address size
-  unfolding is_tombstone pick ◌or◌
-  zero-8 n s z = rw (ne_eqb size 4 n, eq-eqb size 8 s, eq-eqb address 0 z)
-
-  pub ones-8 : (size ≡ 4 → ⊥) → size ≡ 8 → (address ≡ 0 → ⊥) → eqb address 18446744073709551615 ≡ is_tombstone address size
-  unfolding is_tombstone pick ◌or◌
-  ones-8 n s z = rw (ne_eqb size 4 n, eq-eqb size 8 s, ne_eqb address 0 z)
-
-  pub other-size : (size ≡ 4 → ⊥) → (size ≡ 8 → ⊥) → false ≡ is_tombstone address size
-  unfolding is_tombstone pick
-  other-size n m = rw (ne_eqb size 4 n, ne_eqb size 8 m)
 
 module _ (table : List ℕ) (index : ℕ) where
   pub no_table : length table ≡ 0 → Ok Live ≡ lookup_at table index

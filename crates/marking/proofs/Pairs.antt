@@ -1,11 +1,11 @@
 -- The pairs of references, as they are written one after the other. Assumes nothing.
 use mathlib.Core.Path.{◌≡◌, refl, ap, sym, ◌∙◌, subst}
-use Prim.Native.Nat.{ℕ, suc, ◌+◌, ◌*◌, ◌-◌, ◌≤◌, ◌<◌}
+use Prim.Native.Nat.{ℕ, suc, ◌+◌, ◌*◌, ◌≤◌, ◌<◌}
 use native.Mathlib.Omega.{arith}
 use mathlib.Core.List.{List, [], ◌∷◌, ◌++◌, append_assoc, append-nil}
 use Rattle.std.specs.Prelude.{None, Option, Some}
 use lib.ListN.{length, get_or, take, drop, set, length-append, length-drop, length-set, take-append-drop}
-use lib.Seq.{length-take-le, take-suc, drop-cons, get_or-drop, set_at, append_snoc}
+use lib.Seq.{length-take-le, take-length, take-suc, drop-cons, set_at, append_snoc}
 use Rattle.readers.specs.declared.offsets.EntryIndex.{EntryIndex}
 use Rattle.readers.specs.Choice.{put}
 use Rattle.marking.specs.Resolution.{entry_from, pair_for, pairs_of_entry}
@@ -86,42 +86,34 @@ unfolding as_entry
 none_is None q = refl
 none_is (Some t) q = let z : ◌≡◌ {A = ℕ} 0 1 = cc in absurd (omega arith)
 
-module _ (offsets : List ℕ) (n : ℕ) (targets : List ℕ) (from to holder : ℕ) (pairs₀ : List ℕ) (at : ℕ) where
+module _ (offsets names : List ℕ) (holder : ℕ) (pairs₀ : List ℕ) (at : ℕ) where
   -- those of the references before j
   abbrev made : ℕ → List ℕ
-  made j = pairs_of_entry (take n offsets) holder (take (j - from) (drop from targets))
+  made j = pairs_of_entry offsets holder (take j names)
 
   pub record Pairing (pairs : List ℕ) (place j : ℕ) : Type 0 where
-    pub ready : ResolveInput offsets n targets from to pairs₀ at
-    pub low : from ≤ j
-    pub high : j ≤ to
-    pub most : place ≤ at + (j - from)
+    pub ready : ResolveInput offsets (length offsets) names 0 (length names) pairs₀ at
+    pub most : place ≤ at + j
     pub count : 2 * place ≡ 2 * at + length (made j)
     pub filled : pairs ≡ put pairs₀ (2 * at) (made j)
     pub size : length pairs ≡ length pairs₀
 
-  made_none : made from ≡ []
+  made_none : made 0 ≡ []
   unfolding pairs_of_entry
-  made_none = ap (λ (k : ℕ). pairs_of_entry (take n offsets) holder (take k (drop from targets))) (let z : from - from ≡ 0 = omega arith in z)
+  made_none = refl
 
-  made_more : (j : ℕ) → from ≤ j → j < length targets → made (j + 1) ≡ made j ++ pair_for holder (entry_from 0 (take n offsets) (get_or targets j 0))
-  made_more j lo hi =
-      let ts : List ℕ = drop from targets in
-      let k : ℕ = j - from in
-      let l : k < length ts = omega (arith, length-drop from targets) in
-      let g : get_or ts k 0 ≡ get_or targets j 0 = get_or-drop from targets k 0 ∙ ap (λ (m : ℕ). get_or targets m 0) (let z : from + k ≡ j = omega arith in z) in
-      ap (λ (m : ℕ). pairs_of_entry (take n offsets) holder (take m ts)) (let z : j + 1 - from ≡ suc k = omega arith in z)
-      ∙ ap (pairs_of_entry (take n offsets) holder) (take-suc ts k 0 l ∙ ap (λ (v : ℕ). take k ts ++ (v ∷ [])) g)
-      ∙ pairs-append (take n offsets) holder (take k ts) (get_or targets j 0 ∷ [])
-      ∙ ap (λ (r : List ℕ). made j ++ r) (one-pair (take n offsets) holder (get_or targets j 0))
+  made_more : (j : ℕ) → j < length names → made (j + 1) ≡ made j ++ pair_for holder (entry_from 0 offsets (get_or names j 0))
+  made_more j h =
+      ap (λ (m : ℕ). pairs_of_entry offsets holder (take m names)) (let z : j + 1 ≡ suc j = omega arith in z)
+      ∙ ap (pairs_of_entry offsets holder) (take-suc names j 0 h)
+      ∙ pairs-append offsets holder (take j names) (get_or names j 0 ∷ [])
+      ∙ ap (λ (r : List ℕ). made j ++ r) (one-pair offsets holder (get_or names j 0))
 
-  pub pairing-start : ResolveInput offsets n targets from to pairs₀ at → Pairing pairs₀ at from
+  pub pairing-start : ResolveInput offsets (length offsets) names 0 (length names) pairs₀ at → Pairing pairs₀ at 0
   pairing-start r = record {
     ready = r;
-    low = omega arith;
-    high = r.forward;
     most = omega arith;
-    count = (let l : length (made from) ≡ 0 = ap length made_none in omega arith);
+    count = (let l : length (made 0) ≡ 0 = ap length made_none in omega arith);
     filled = sym (ap (put pairs₀ (2 * at)) made_none ∙ put-nil pairs₀ (2 * at));
     size = refl;
   }
@@ -131,29 +123,27 @@ module _ (offsets : List ℕ) (n : ℕ) (targets : List ℕ) (from to holder : �
       subst (λ (l : List ℕ). Pairing l place j) (sym e) (subst (λ (k : ℕ). Pairing pairs' k j) (sym e') p)
 
   module _ (pairs : List ℕ) (place j : ℕ) (p : Pairing pairs place j) where
-    pub pairing-end : to ≤ j → (2 * place ≡ 2 * at + length (made to)) × (pairs ≡ put pairs₀ (2 * at) (made to))
-    pairing-end h =
-        let e : j ≡ to = omega (arith, p.high) in
-        (p.count ∙ ap (λ (k : ℕ). 2 * at + length (made k)) e, p.filled ∙ ap (λ (k : ℕ). put pairs₀ (2 * at) (made k)) e)
+    pub pairing-end : j ≤ length names → length names ≤ j
+        → (2 * place ≡ 2 * at + length (pairs_of_entry offsets holder names)) × (pairs ≡ put pairs₀ (2 * at) (pairs_of_entry offsets holder names))
+    pairing-end h l =
+        let e : made j ≡ pairs_of_entry offsets holder names =
+        ap (λ (k : ℕ). pairs_of_entry offsets holder (take k names)) (let z : j ≡ length names = omega arith in z)
+        ∙ ap (pairs_of_entry offsets holder) (take-length names) in
+        (p.count ∙ ap (λ (m : List ℕ). 2 * at + length m) e, p.filled ∙ ap (put pairs₀ (2 * at)) e)
 
     -- room for one more
-    pub pairing-room : j < to → 2 * place + 2 ≤ length pairs
-    pairing-room h = omega (arith, p.most, p.low, p.size, p.ready.room)
+    pub pairing-room : j < length names → 2 * place + 2 ≤ length pairs
+    pairing-room h = omega (arith, p.most, p.size, p.ready.room)
 
-    module _ (h : j < to) (r : Option EntryIndex) (q : r ≡ as_entry (entry_from 0 (take n offsets) (get_or targets j 0))) where
-      inside : j < length targets
-      inside = omega (arith, p.ready.inside)
-
-      pub pairing-none : r ≡ None → Pairing pairs place (j + 1)
+    module _ (h : j < length names) (r : EntryFound) (q : r ≡ as_entry (entry_from 0 offsets (get_or names j 0))) where
+      pub pairing-none : r ≡ Nothing → Pairing pairs place (j + 1)
       unfolding pair_for
       pairing-none k =
           let same : made (j + 1) ≡ made j =
-          made_more j p.low inside ∙ ap (λ (o : Option ℕ). made j ++ pair_for holder o) (none_is _ (sym k ∙ q)) ∙ append-nil (made j) in
+          made_more j h ∙ ap (λ (o : Option ℕ). made j ++ pair_for holder o) (none_is _ (sym k ∙ q)) ∙ append-nil (made j) in
           record {
             ready = p.ready;
-            low = omega (arith, p.low);
-            high = omega arith;
-            most = omega (arith, p.most, p.low);
+            most = omega (arith, p.most);
             count = p.count ∙ ap (λ (l : List ℕ). 2 * at + length l) (sym same);
             filled = p.filled ∙ ap (put pairs₀ (2 * at)) (sym same);
             size = p.size;
@@ -163,14 +153,12 @@ module _ (offsets : List ℕ) (n : ℕ) (targets : List ℕ) (from to holder : �
       unfolding pair_for
       pairing-more x k =
           let more : made (j + 1) ≡ made j ++ (holder ∷ x.0 ∷ []) =
-          made_more j p.low inside ∙ ap (λ (o : Option ℕ). made j ++ pair_for holder o) (entry-is _ x (sym k ∙ q)) in
+          made_more j h ∙ ap (λ (o : Option ℕ). made j ++ pair_for holder o) (entry-is _ x (sym k ∙ q)) in
           let l : length (made (j + 1)) ≡ length (made j) + 2 = ap length more ∙ length-append (made j) (holder ∷ x.0 ∷ []) in
           let fits : 2 * place + 2 ≤ length pairs₀ = omega (arith, pairing-room h, p.size) in
           record {
             ready = p.ready;
-            low = omega (arith, p.low);
-            high = omega arith;
-            most = omega (arith, p.most, p.low);
+            most = omega (arith, p.most);
             count = omega (arith, p.count);
             filled =
                 ap (λ (s : List ℕ). set (set s (2 * place) holder) (2 * place + 1) x.0) p.filled

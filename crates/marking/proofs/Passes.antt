@@ -1,24 +1,22 @@
--- One store that raises a mark, and passes after each other.
-use Prim.Native.Nat.{ℕ, zero, suc, ◌+◌, ◌*◌, ◌/◌, ◌-◌, ◌≤◌, ◌<◌}
-use mathlib.Core.Path.{◌≡◌, refl, sym, subst, ◌∙◌}
+-- One store that raises a mark, and what finds nothing to raise.
+use Prim.Native.Nat.{ℕ, zero, suc, ◌+◌, ◌*◌, ◌/◌, ◌≤◌, ◌<◌}
+use mathlib.Core.Path.{◌≡◌, refl, ◌∙◌}
 use mathlib.Core.List.{List, [], ◌∷◌}
-use mathlib.Core.Bool.{Bool, true, false, true≢false, false≢true}
-use mathlib.Core.Logic.{⊎_elim}
-use native.Mathlib.Nat.{not-suc-le-zero, le_of_suc-le-suc, eq-or-lt_of_le}
+use mathlib.Core.Bool.{Bool, true, false, not, true≢false, false≢true}
+use native.Mathlib.Nat.{not-suc-le-zero, le_of_suc-le-suc}
 use native.Mathlib.Omega.{arith}
 use native.Mathlib.Decide.{ℕ_discrete}
-use borrow.Author.Count.{below_more}
+use lib.Dec.{eqb}
+use borrow.Author.Tests.{eq-eqb}
 use lib.ListN.{length, get_or, set, length-set}
 use lib.Seq.{get_or-set_same, get_or-set_other}
-use Rattle.readers.specs.Choice.{◌or◌}
 use Rattle.readers.specs.Nesting.{no_parent}
 use Rattle.marking.specs.Graph.{Graph, size, is_root, references, holder, parent_fits, pair_fits}
 use Rattle.marking.specs.Survivors.{Survivor, parent, Live, live_named}
-use Rattle.marking.specs.Inner.Passes.{sum, Sound, Pass, WithParents, WithPairs, WithBoth, DownAt, AlongAt, UpAt, Down, Along, Up, Settled, ParentsFit, PairsFit}
-use Rattle.marking.proofs.Tests.{or_inr, every-at}
+use Rattle.marking.specs.Inner.Passes.{sum, Sound, Pass, Raised, WithParents, WithPairs, DownAt, AlongAt, UpAt, ParentsFit, PairsFit}
+use Rattle.marking.proofs.Tests.{every-at}
 use Rattle.marking.proofs.Graphs.{parent_in, names_in_lem, parent-fits, pair_fits_lem}
 use Rattle.marking.proofs.Survivors.{live-kept, live-down}
-use Rattle.marking.proofs.Spreads.{spread-on}
 
 -- the marks with v at k
 data At (m : List ℕ) (k v i : ℕ) : Type 0 where
@@ -78,33 +76,14 @@ raised g m k v s h top l kept live = record {
 pub idle : {On : Graph → Type 0} {C : Type 0} {m : List ℕ} → C → Pass On C m m false
 idle c = record { spread = record { sound = λ g o s. s }; more = λ e. absurd (false≢true e); same = λ e. refl; done = λ e. c }
 
--- a mark is raised
-pub raise : {On : Graph → Type 0} {C : Type 0} (m : List ℕ) (k v : ℕ) → k < length m → get_or m k 0 < v → ((g : Graph) → On g → Sound g m → Sound g (set m k v)) → Pass On C m (set m k v) true
-raise m k v h l f = record { spread = record { sound = f }; more = λ e. sum-set m k v h l; same = λ e. absurd (true≢false e); done = λ e. absurd (true≢false e) }
-
--- one pass after another
-module _ (On : Graph → Type 0) (C : Type 0) (D E : List ℕ → Type 0) (m m' m'' : List ℕ) (f : C → D m → E m) where
-  then : (a b : Bool) → Pass On C m m' a → Pass On (D m') m' m'' b → Pass On (E m) m m'' (a or b)
-  unfolding ◌or◌
-  then true true p q = record { spread = spread-on p.spread q.spread; more = λ e. omega (arith, p.more refl, q.more refl); same = λ e. absurd (true≢false e); done = λ e. absurd (true≢false e) }
-  then true false p q = record { spread = spread-on p.spread q.spread; more = λ e. rw (q.same refl) (p.more refl); same = λ e. absurd (true≢false e); done = λ e. absurd (true≢false e) }
-  then false true p q = record { spread = spread-on p.spread q.spread; more = λ e. rw (← p.same refl) (q.more refl); same = λ e. absurd (true≢false e); done = λ e. absurd (true≢false e) }
-  then false false p q = record { spread = spread-on p.spread q.spread; more = λ e. absurd (false≢true e); same = λ e. q.same refl ∙ p.same refl; done = λ e. f (p.done refl) (subst D (p.same refl) (q.done refl)) }
-
-  -- the answer is that something changed in one of them
-  pub after : (a b r : Bool) → Pass On C m m' a → Pass On (D m') m' m'' b → r ≡ (a or b) → Pass On (E m) m m'' r
-  after a b r p q e = rw e (then a b p q)
-
-pub or-now : (a : Bool) {b r : Bool} → b ≡ true → r ≡ true → r ≡ (a or b)
-or-now a p q = rw (p, q) (sym (or_inr a refl))
-
-or-none : (a : Bool) → a ≡ (a or false)
-unfolding ◌or◌
-or-none true = refl
-or-none false = refl
-
-pub or-then : {a b r : Bool} → b ≡ false → r ≡ a → r ≡ (a or b)
-or-then p q = rw (p, q) (or-none _)
+-- a mark is raised, or none is
+by-raise : (On : Graph → Type 0) (C : Type 0) (m m' : List ℕ) (s l t v : ℕ) (r : Bool) → Raised m m' s l t v r → t < length m
+    → (l ≤ get_or m s 0 → get_or m t 0 < v → (g : Graph) → On g → Sound g m → Sound g (set m t v))
+    → ((l ≤ get_or m s 0 → v ≤ get_or m t 0) → C) → Pass On C m m' r
+by-raise On C m m' s l t v true q h f d =
+    let k = q.rose refl in
+    rw k.2 (record { spread = record { sound = f k.0 k.1 }; more = λ e. sum-set m t v h k.1; same = λ e. absurd (true≢false e); done = λ e. absurd (true≢false e) })
+by-raise On C m m' s l t v false q h f d = rw (q.same refl) (idle (d (q.done refl)))
 
 -- what a look at a parent or a pair finds is an entry
 pub parent-before : (ps m : List ℕ) (i : ℕ) → ParentsFit ps m → i < length m → (get_or ps i 0 ≡ no_parent → ⊥) → get_or ps i 0 < length m
@@ -114,103 +93,51 @@ parent-before ps m i w h n =
 pub pair_inside : (rs m : List ℕ) (j : ℕ) → PairsFit rs m → j < length rs / 2 → (get_or rs (2 * j) 0 < length m) × (get_or rs (2 * j + 1) 0 < length m)
 pair_inside rs m j w h = pair_fits_lem rs (length m) j (every-at (length rs / 2) (pair_fits rs (length m)) w j h)
 
-module _ (ps m : List ℕ) (i : ℕ) where
-  pub down-none : get_or ps i 0 ≡ no_parent → Pass (WithParents ps) (DownAt ps m i) m m false
+module _ (ps m m' : List ℕ) (i : ℕ) (r : Bool) where
+  pub down-pass : ParentsFit ps m → i < length m → (get_or ps i 0 ≡ no_parent → ⊥) → Raised m m' (get_or ps i 0) 3 i 3 r
+      → Pass (WithParents ps) (DownAt ps m i) m m' r
   unfolding DownAt
-  down-none e = idle (λ n. absurd (n e))
-
-  pub down-low : get_or m (get_or ps i 0) 0 < 3 → Pass (WithParents ps) (DownAt ps m i) m m false
-  unfolding DownAt
-  down-low h = idle (λ n k. absurd (omega arith))
-
-  pub down-high : 3 ≤ get_or m i 0 → Pass (WithParents ps) (DownAt ps m i) m m false
-  unfolding DownAt
-  down-high h = idle (λ n k. h)
-
-  pub down-raise : ParentsFit ps m → i < length m → (get_or ps i 0 ≡ no_parent → ⊥) → 3 ≤ get_or m (get_or ps i 0) 0 → get_or m i 0 < 3 → Pass (WithParents ps) (DownAt ps m i) m (set m i 3) true
-  down-raise w h n k l = raise m i 3 h l sound
+  down-pass w h n q = by-raise (WithParents ps) _ m m' _ 3 i 3 r q h sound (λ d _. d)
     where
-      live : (g : Graph) → g.parents ≡ ps → Sound g m → Live g i
-      live g o s = live-down (s.live (get_or g.parents i 0) (rw o k)) (parent_in g i (rw (← s.long) h) (rw o n))
+      live : 3 ≤ get_or m (get_or ps i 0) 0 → (g : Graph) → g.parents ≡ ps → Sound g m → Live g i
+      live k g o s = live-down (s.live (get_or g.parents i 0) (rw o k)) (parent_in g i (rw (← s.long) h) (rw o n))
 
-      sound : (g : Graph) → g.parents ≡ ps → Sound g m → Sound g (set m i 3)
-      sound g o s = raised g m i 3 s h (omega arith) l (live-kept (live g o s)) (λ _. live g o s)
+      sound : 3 ≤ get_or m (get_or ps i 0) 0 → get_or m i 0 < 3 → (g : Graph) → g.parents ≡ ps → Sound g m → Sound g (set m i 3)
+      sound k l g o s = raised g m i 3 s h (omega arith) l (live-kept (live k g o s)) (λ _. live k g o s)
 
-  pub up_none : get_or ps i 0 ≡ no_parent → Pass (WithParents ps) (UpAt ps m i) m m false
+  pub up-pass : ParentsFit ps m → i < length m → (get_or ps i 0 ≡ no_parent → ⊥) → Raised m m' i 2 (get_or ps i 0) 2 r
+      → Pass (WithParents ps) (UpAt ps m i) m m' r
   unfolding UpAt
-  up_none e = idle (λ n. absurd (n e))
-
-  pub up-low : get_or m i 0 < 2 → Pass (WithParents ps) (UpAt ps m i) m m false
-  unfolding UpAt
-  up-low h = idle (λ n k. absurd (omega arith))
-
-  pub up-high : 2 ≤ get_or m (get_or ps i 0) 0 → Pass (WithParents ps) (UpAt ps m i) m m false
-  unfolding UpAt
-  up-high h = idle (λ n k. h)
-
-  pub up-raise : ParentsFit ps m → i < length m → (get_or ps i 0 ≡ no_parent → ⊥) → 2 ≤ get_or m i 0 → get_or m (get_or ps i 0) 0 < 2 → Pass (WithParents ps) (UpAt ps m i) m (set m (get_or ps i 0) 2) true
-  up-raise w h n k l = raise m (get_or ps i 0) 2 in-m l sound
+  up-pass w h n q = by-raise (WithParents ps) _ m m' i 2 _ 2 r q in-m sound (λ d _. d)
     where
       in-m : get_or ps i 0 < length m
       in-m = parent-before ps m i w h n
 
-      sound : (g : Graph) → g.parents ≡ ps → Sound g m → Sound g (set m (get_or ps i 0) 2)
-      sound g o s = raised g m (get_or ps i 0) 2 s in-m (omega arith) l (rw (← o) (parent (parent_in g i (rw (← s.long) h) (rw o n)) (s.kept i k))) (λ b. absurd (omega arith))
+      sound : 2 ≤ get_or m i 0 → get_or m (get_or ps i 0) 0 < 2 → (g : Graph) → g.parents ≡ ps → Sound g m → Sound g (set m (get_or ps i 0) 2)
+      sound k l g o s = raised g m (get_or ps i 0) 2 s in-m (omega arith) l (rw (← o) (parent (parent_in g i (rw (← s.long) h) (rw o n)) (s.kept i k))) (λ b. absurd (omega arith))
 
-module _ (rs m : List ℕ) (j : ℕ) where
-  pub along-low : get_or m (get_or rs (2 * j) 0) 0 < 2 → Pass (WithPairs rs) (AlongAt rs m j) m m false
-  unfolding AlongAt
-  along-low h = idle (λ k. absurd (omega arith))
+-- where there is no parent
+pub down-none : (ps m : List ℕ) (i : ℕ) → get_or ps i 0 ≡ no_parent → Pass (WithParents ps) (DownAt ps m i) m m (not (eqb (get_or ps i 0) no_parent))
+unfolding DownAt
+down-none ps m i e = rw (eq-eqb (get_or ps i 0) no_parent e) (idle (λ n. absurd (n e)))
 
-  pub along-high : 3 ≤ get_or m (get_or rs (2 * j + 1) 0) 0 → Pass (WithPairs rs) (AlongAt rs m j) m m false
-  unfolding AlongAt
-  along-high h = idle (λ k. h)
+pub up_none : (ps m : List ℕ) (i : ℕ) → get_or ps i 0 ≡ no_parent → Pass (WithParents ps) (UpAt ps m i) m m (not (eqb (get_or ps i 0) no_parent))
+unfolding UpAt
+up_none ps m i e = rw (eq-eqb (get_or ps i 0) no_parent e) (idle (λ n. absurd (n e)))
 
-  pub along-raise : PairsFit rs m → j < length rs / 2 → 2 ≤ get_or m (get_or rs (2 * j) 0) 0 → get_or m (get_or rs (2 * j + 1) 0) 0 < 3 → Pass (WithPairs rs) (AlongAt rs m j) m (set m (get_or rs (2 * j + 1) 0) 3) true
-  unfolding references
-  along-raise w h k l = raise m (get_or rs (2 * j + 1) 0) 3 in-m l sound
-    where
-      in-m : get_or rs (2 * j + 1) 0 < length m
-      in-m = (pair_inside rs m j w h).1
+pub along-pass : (rs m m' : List ℕ) (j : ℕ) (r : Bool) → PairsFit rs m → j < length rs / 2 → Raised m m' (get_or rs (2 * j) 0) 2 (get_or rs (2 * j + 1) 0) 3 r
+    → Pass (WithPairs rs) (AlongAt rs m j) m m' r
+unfolding AlongAt references
+along-pass rs m m' j r w h q = by-raise (WithPairs rs) _ m m' _ 2 _ 3 r q in-m sound (λ d. d)
+  where
+    in-m : get_or rs (2 * j + 1) 0 < length m
+    in-m = (pair_inside rs m j w h).1
 
-      live : (g : Graph) → g.pairs ≡ rs → Sound g m → Live g (get_or rs (2 * j + 1) 0)
-      live g o s = rw (← o) (live_named (names_in_lem g j (rw o h)) (s.kept (holder g j) (rw o k)))
+    live : 2 ≤ get_or m (get_or rs (2 * j) 0) 0 → (g : Graph) → g.pairs ≡ rs → Sound g m → Live g (get_or rs (2 * j + 1) 0)
+    live k g o s = rw (← o) (live_named (names_in_lem g j (rw o h)) (s.kept (holder g j) (rw o k)))
 
-      sound : (g : Graph) → g.pairs ≡ rs → Sound g m → Sound g (set m (get_or rs (2 * j + 1) 0) 3)
-      sound g o s = raised g m (get_or rs (2 * j + 1) 0) 3 s in-m (omega arith) l (live-kept (live g o s)) (λ _. live g o s)
-
--- a turn at i, after turns at all below i
-pub turned : (On : Graph → Type 0) (A : List ℕ → ℕ → Type 0) (m₀ m m' : List ℕ) (i : ℕ) (a b r : Bool) → Pass On ((k : ℕ) → k < i → A m₀ k) m₀ m a → Pass On (A m i) m m' b → r ≡ (a or b) → Pass On ((k : ℕ) → k < i + 1 → A m₀ k) m₀ m' r
-turned On A m₀ m m' i a b r p q e =
-    after On ((k : ℕ) → k < i → A m₀ k) (λ n. A n i) (λ n. (k : ℕ) → k < i + 1 → A n k) m₀ m m' (λ f h. below_more (A m₀) i f h) a b r p q e
-
--- a turn at i, after turns at all above i
-pub turned_up : (On : Graph → Type 0) (A : List ℕ → ℕ → Type 0) (m₀ m m' : List ℕ) (n i : ℕ) (a b r : Bool) → 0 < i → Pass On ((k : ℕ) → i ≤ k → k < n → A m₀ k) m₀ m a → Pass On (A m (i - 1)) m m' b → r ≡ (a or b) → Pass On ((k : ℕ) → i - 1 ≤ k → k < n → A m₀ k) m₀ m' r
-turned_up On A m₀ m m' n i a b r pos p q e =
-    after On ((k : ℕ) → i ≤ k → k < n → A m₀ k) (λ l. A l (i - 1)) (λ l. (k : ℕ) → i - 1 ≤ k → k < n → A l k) m₀ m m'
-    (λ f h k low high. ⊎_elim (λ (x : i - 1 ≡ k). rw (← x) h) (λ (x : i - 1 < k). f k (omega arith) high) (eq-or-lt_of_le low)) a b r p q e
-
-pub weaken : {On On' : Graph → Type 0} {C D : Type 0} {m m' : List ℕ} {r : Bool} → Pass On C m m' r → ((g : Graph) → On' g → On g) → (C → D) → Pass On' D m m' r
-weaken p o f = record { spread = record { sound = λ g h s. p.spread.sound g (o g h) s }; more = p.more; same = p.same; done = λ e. f (p.done e) }
-
--- a round: the three passes
-pub rounded : (ps rs m m₁ m₂ m₃ : List ℕ) (a b c r : Bool) → Pass (WithParents ps) (Down ps m) m m₁ a → Pass (WithPairs rs) (Along rs m₁) m₁ m₂ b → Pass (WithParents ps) (Up ps m₂) m₂ m₃ c → r ≡ ((a or b) or c) → Pass (WithBoth ps rs) (Settled ps rs m) m m₃ r
-rounded ps rs m m₁ m₂ m₃ a b c r p q s e =
-    after (WithBoth ps rs) (Down ps m × Along rs m) (Up ps) (Settled ps rs) m m₂ m₃ (λ d u. record { down = d.0; along = d.1; up = u }) (a or b) c r
-    (after (WithBoth ps rs) (Down ps m) (Along rs) (λ n. Down ps n × Along rs n) m m₁ m₂ (λ d l. (d, l)) a b (a or b) (weaken p (λ g o. o.0) (λ d. d)) (weaken q (λ g o. o.1) (λ l. l)) refl)
-    (weaken s (λ g o. o.0) (λ u. u)) e
-
-pub or-first : (b c : Bool) {a : Bool} → a ≡ true → true ≡ ((a or b) or c)
-unfolding ◌or◌
-or-first b c p = rw p
-
-pub or-second : (c : Bool) {a b : Bool} → a ≡ false → b ≡ true → true ≡ ((a or b) or c)
-unfolding ◌or◌
-or-second c p q = rw (p, q)
-
-pub or-third : {a b : Bool} (c : Bool) → a ≡ false → b ≡ false → c ≡ ((a or b) or c)
-unfolding ◌or◌
-or-third c p q = rw (p, q)
+    sound : 2 ≤ get_or m (get_or rs (2 * j) 0) 0 → get_or m (get_or rs (2 * j + 1) 0) 0 < 3 → (g : Graph) → g.pairs ≡ rs → Sound g m → Sound g (set m (get_or rs (2 * j + 1) 0) 3)
+    sound k l g o s = raised g m (get_or rs (2 * j + 1) 0) 3 s in-m (omega arith) l (live-kept (live k g o s)) (λ _. live k g o s)
 
 pub pairs-fit-still : (rs m m' : List ℕ) → PairsFit rs m → length m' ≡ length m → PairsFit rs m'
 pairs-fit-still rs m m' w e = rw e w

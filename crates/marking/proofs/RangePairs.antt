@@ -9,7 +9,7 @@ use mathlib.Core.List.{List}
 use lib.ListN.{length, take, drop}
 use lib.Dec.{ltb, eqb}
 use mir.Facts.{ltb_yes, eqb_yes, eqb_no}
-use borrow.Author.Tests.{lt-ltb, le-ltb, eq-eqb, ne_eqb}
+use borrow.Author.Tests.{lt-ltb, le-ltb, eq-eqb}
 use Rattle.readers.specs.Choice.{pick, ◌and◌, ◌or◌}
 use Rattle.readers.proofs.Choice.{pick-either, either}
 use Rattle.readers.specs.Numbers.{fixed_value, ordered, little_value}
@@ -82,11 +82,6 @@ module _ (e : Encoding) (s : List ℕ) (at : ℕ) (r : Operands) (x : row_at e s
 
 -- ---- one pair
 
-and_none : (b : Bool) → (b and not true) ≡ false
-unfolding ◌and◌
-and_none true = refl
-and_none false = refl
-
 module _ (e : Encoding) (dead : Bool) (r : Operands) where
   abbrev begin : ℕ
   begin = r.first.value
@@ -97,33 +92,6 @@ module _ (e : Encoding) (dead : Bool) (r : Operands) where
   pub pair_end : begin ≡ 0 → end ≡ 0 → Decided (Ok is_dead) ≡ turn_of (range_pair e dead r)
   unfolding range_pair turn_of pick ◌and◌
   pair_end a b = rw (eq-eqb begin 0 a, eq-eqb end 0 b)
-
-  module _ (b : Bool) (q : b ≡ is_tombstone begin e.address_size) where
-    pub pair-base : (begin ≡ 0 → ⊥) → b ≡ true → (f : Bool) → f ≡ is_tombstone end e.address_size → On f ≡ turn_of (range_pair e dead r)
-    unfolding range_pair turn_of pick ◌and◌
-    pair-base a t f p = ap On p ∙ rw (ne_eqb begin 0 a, sym q ∙ t)
-
-    -- neither the end nor a base
-    module _ (plain : ((begin ≡ 0) × (end ≡ 0 → ⊥)) ⊎ ((begin ≡ 0 → ⊥) × (b ≡ false))) where
-      pair-plain : range_pair e dead r ≡ pick (dead or b) (past_pair r dead) (stop (Ok is_live))
-      unfolding range_pair pick ◌and◌ ◌or◌
-      pair-plain =
-          ⊎_elim
-          (λ y. rw (eq-eqb begin 0 y.0, ne_eqb end 0 y.1, sym q, and_none b))
-          (λ y. rw (ne_eqb begin 0 y.0, sym q ∙ y.1, y.1))
-          plain
-
-      pub pair_under : dead ≡ true → On dead ≡ turn_of (range_pair e dead r)
-      unfolding turn_of pick ◌or◌
-      pair_under d = sym (ap turn_of pair-plain ∙ rw d)
-
-      pub pair-left-out : dead ≡ false → b ≡ true → On dead ≡ turn_of (range_pair e dead r)
-      unfolding turn_of pick ◌or◌
-      pair-left-out d t = sym (ap turn_of pair-plain ∙ rw (d, t))
-
-      pub pair-kept : dead ≡ false → b ≡ false → Decided (Ok is_live) ≡ turn_of (range_pair e dead r)
-      unfolding turn_of pick ◌or◌
-      pair-kept d t = sym (ap turn_of pair-plain ∙ rw (d, t))
 
   pair-heads : Heads r.third.end (range_pair e dead r)
   unfolding range_pair Heads

@@ -25,7 +25,7 @@ use Rattle.marking.specs.Graph.{references, parent_fits, pair_fits, root_fits, w
 use Rattle.marking.specs.EntryReferences.{ReferencesFound, found, refused as refused_after}
 use Rattle.marking.specs.declared.addresses.Verdict.{Verdict}
 use Rattle.marking.specs.declared.addresses.Verdict.TheVariants.{Live, Dead}
-use Rattle.marking.proofs.Tests.{and_in, or_inl, or_inr}
+use Rattle.marking.proofs.Tests.{every_in, and_in, or_inl, or_inr}
 use Rattle.readers.specs.Stream.{Item, entry, terminator, Items, push, on_step, items_within, items_from}
 use Rattle.marking.specs.Analysis.{Sections, Rooms, EntryRow, Analysed, analysed, refused, onto, on_verdict, on_found, Reached, reached, start_of, analyse_items, on_declared, unit_analysed, header_by, header_analysed, analysis_of, root_of, names_of, base_of}
 use Rattle.marking.specs.Columns.{offsets_in, parents_in, roots_in, names_in}
@@ -355,11 +355,6 @@ pairs-under n os l i (r ∷ rs) h =
     under-append n (pairs_of_entry os i r.names) (pairs_from os (suc i) rs)
     (entry-pairs-under n os l i (omega arith) r.names)
     (pairs-under n os l (suc i) rs (omega arith))
-
-every_in : (n : ℕ) (f : ℕ → Bool) → ((k : ℕ) → k < n → f k ≡ true) → every n f ≡ true
-unfolding every
-every_in zero f h = refl
-every_in (suc n) f h = and_in (h n (omega arith)) (every_in n f (λ k l. h k (omega arith)))
 
 module _ (high low : ℕ) (rows : List EntryRow) (r : Rowed high low 0 rows) where
   parents-take : every (length (parents_in rows)) (parent_fits (parents_in rows)) ≡ true

@@ -27,20 +27,20 @@ use Rattle.marking.proofs.Letters.{live-is, is_live_lem}
 
 -- ---- the first entry's own mark
 
-pub end_none : (rs m : List ℕ) → length m ≡ 0 → m ≡ end_first rs m
+pub end_none : (rs m : List ℕ) → length m ≤ 0 → m ≡ end_first rs m
 unfolding end_first
 end_none rs [] h = refl
 end_none rs (x ∷ m) h = absurd (omega arith)
 
-pub end_live : (rs m : List ℕ) (b : Bool) → (length m ≡ 0 → ⊥) → b ≡ names_first rs m → b ≡ true → set m 0 3 ≡ end_first rs m
+pub end_live : (rs m : List ℕ) (b : Bool) (v : ℕ) → 0 < length m → b ≡ names_first rs m → b ≡ true → v ≡ 3 → set m 0 v ≡ end_first rs m
 unfolding end_first pick
-end_live rs [] b h e q = absurd (h refl)
-end_live rs (x ∷ m) b h e q = rw (← e, q)
+end_live rs [] b v h e q r = absurd (omega arith)
+end_live rs (x ∷ m) b v h e q r = rw (← e, q, r)
 
-pub end_kept : (rs m : List ℕ) (b : Bool) → (length m ≡ 0 → ⊥) → b ≡ names_first rs m → b ≡ false → set m 0 2 ≡ end_first rs m
+pub end_kept : (rs m : List ℕ) (b : Bool) (v : ℕ) → 0 < length m → b ≡ names_first rs m → b ≡ false → v ≡ 2 → set m 0 v ≡ end_first rs m
 unfolding end_first pick
-end_kept rs [] b h e q = absurd (h refl)
-end_kept rs (x ∷ m) b h e q = rw (← e, q)
+end_kept rs [] b v h e q r = absurd (omega arith)
+end_kept rs (x ∷ m) b v h e q r = rw (← e, q, r)
 
 length-end : (rs m : List ℕ) → length (end_first rs m) ≡ length m
 unfolding end_first

@@ -22,13 +22,13 @@ pub start-root : (os : List ℕ) (i v : ℕ) → get_or os i 0 ≡ 1 → v ≡ 3
 unfolding start_mark pick
 start-root os i v p q = rw (eq-eqb (get_or os i 0) 1 p) q
 
-pub start_first : (os : List ℕ) (i v u : ℕ) → (get_or os i 0 ≡ 1 → ⊥) → v ≡ u → i ≡ 0 → u ≡ 2 → v ≡ start_mark os i
+pub start_first : (os : List ℕ) (i v : ℕ) → (get_or os i 0 ≡ 1 → ⊥) → i ≡ 0 → v ≡ 2 → v ≡ start_mark os i
 unfolding start_mark pick
-start_first os i v u p q r s = rw (ne_eqb (get_or os i 0) 1 p, eq-eqb i 0 r) (q ∙ s)
+start_first os i v p q r = rw (ne_eqb (get_or os i 0) 1 p, eq-eqb i 0 q) r
 
-pub start-rest : (os : List ℕ) (i v u : ℕ) → (get_or os i 0 ≡ 1 → ⊥) → v ≡ u → (i ≡ 0 → ⊥) → u ≡ 1 → v ≡ start_mark os i
+pub start-rest : (os : List ℕ) (i v : ℕ) → (get_or os i 0 ≡ 1 → ⊥) → (i ≡ 0 → ⊥) → v ≡ 1 → v ≡ start_mark os i
 unfolding start_mark pick
-start-rest os i v u p q r s = rw (ne_eqb (get_or os i 0) 1 p, ne_eqb i 0 r) (q ∙ s)
+start-rest os i v p q r = rw (ne_eqb (get_or os i 0) 1 p, ne_eqb i 0 q) r
 
 -- what such a mark says
 three : (a z : Bool) → 3 ≤ pick a 3 (pick z 2 1) → a ≡ true

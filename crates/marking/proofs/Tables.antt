@@ -1,14 +1,15 @@
 -- Laws of `tab` and `count`, and of the loops that write or count every element.
 use Prim.Native.Nat.{ℕ, zero, suc, ◌+◌, ◌≤◌, ◌<◌}
 use mathlib.Core.Path.{◌≡◌, refl, sym, ap, subst, ◌∙◌}
-use mathlib.Core.List.{List}
-use mathlib.Core.Bool.{Bool, true, false}
+use mathlib.Core.List.{List, ◌∷◌}
+use mathlib.Core.Bool.{Bool, true, false, cond}
 use mathlib.Core.Logic.{⊎_elim}
-use native.Mathlib.Nat.{le_antisymm, not-suc-le-zero, le_of_suc-le-suc, eq-or-lt_of_le}
-use native.Mathlib.Numerals.{add-one}
+use native.Mathlib.Nat.{not-suc-le-zero, le_of_suc-le-suc, eq-or-lt_of_le}
 use native.Mathlib.Omega.{arith}
 use lib.ListN.{length, get_or, set}
 use lib.Seq.{get_or-set_same, get_or-set_other, ext_get_or}
+use Rattle.std.specs.List.{count_by}
+use Rattle.std.proofs.lemmas.List.Recursion.{is_count_by}
 use Rattle.readers.specs.Choice.{pick}
 use Rattle.marking.specs.Below.{tab, count, Number, no_more, one_more, not_this}
 use Rattle.marking.proofs.Tests.{either, not-both}
@@ -43,16 +44,20 @@ pub count_none : (f : ℕ → Bool) → 0 ≡ count 0 f
 unfolding count
 count_none f = refl
 
-pub count_yes : (f : ℕ → Bool) (i n n' : ℕ) → n ≡ count i f → f i ≡ true → n' ≡ n + 1 → n' ≡ count (i + 1) f
-unfolding count pick
-count_yes f i n n' e p q = rw (add-one i, p) (omega arith)
+count-front : (n : ℕ) (f : ℕ → Bool) → count (suc n) f ≡ pick (f 0) 1 0 + count n (λ k. f (suc k))
+unfolding count
+count-front zero f = refl
+count-front (suc n) f = let e : count (suc n) f ≡ pick (f 0) 1 0 + count n (λ k. f (suc k)) = count-front n f in omega arith
 
-pub count_no : (f : ℕ → Bool) (i n n' : ℕ) → n ≡ count i f → f i ≡ false → n' ≡ n → n' ≡ count (i + 1) f
-unfolding count pick
-count_no f i n n' e p q = rw (add-one i, p) (omega arith)
+chosen : (b : Bool) (n : ℕ) → pick b 1 0 + n ≡ cond b (1 + n) n
+unfolding pick
+chosen true n = refl
+chosen false n = omega arith
 
-pub count-all : (f : ℕ → Bool) (i n m : ℕ) → n ≡ count i f → i ≤ m → m ≤ i → n ≡ count m f
-count-all f i n m e h k = rw (← le_antisymm h k) e
+-- how many elements of a list pass
+pub count-list : (p : ℕ → Bool) (xs : List ℕ) → count_by p xs ≡ count (length xs) (λ i. p (get_or xs i 0))
+count-list p xs =
+    sym (is_count_by (λ (ys : List ℕ). count (length ys) (λ i. p (get_or ys i 0))) p (sym (count_none _)) (λ y ys. count-front (length ys) (λ i. p (get_or (y ∷ ys) i 0)) ∙ chosen (p y) _) xs)
 
 -- a test that says whether P holds counts the numbers with P
 pub counted : (P : ℕ → Type 0) (f : ℕ → Bool) (n : ℕ) → ((i : ℕ) → i < n → f i ≡ true → P i) → ((i : ℕ) → i < n → P i → f i ≡ true) → Number P n (count n f)

@@ -6,8 +6,12 @@ use mathlib.Core.Bool.{Bool, true, false, true≢false, false≢true}
 use native.Mathlib.Nat.{not-suc-le-zero, le_of_suc-le-suc, eq-or-lt_of_le, le_antisymm}
 use native.Mathlib.Numerals.{add-one}
 use native.Mathlib.Omega.{arith}
+use mathlib.Core.List.{List}
 use lib.Dec.{ltb}
+use lib.ListN.{length, get_or}
 use borrow.Author.Tests.{ltb-true, ltb-false}
+use Rattle.std.specs.List.{list_all}
+use Rattle.std.proofs.lemmas.List.Recursion.{and_at, and_from_places}
 use Rattle.readers.specs.Choice.{◌and◌, ◌or◌}
 use Rattle.marking.specs.Below.{any, every}
 
@@ -102,16 +106,14 @@ every-at (suc n) f e k h =
     let b = and-out (f n) (every n f) e in
     ⊎_elim (λ (q : k ≡ n). rw q b.0) (λ (l : k < n). every-at n f b.1 k l) (eq-or-lt_of_le (le_of_suc-le-suc h))
 
-pub every-none : (f : ℕ → Bool) → every 0 f ≡ true
+pub every_in : (n : ℕ) (f : ℕ → Bool) → ((k : ℕ) → k < n → f k ≡ true) → every n f ≡ true
 unfolding every
-every-none f = refl
+every_in zero f h = refl
+every_in (suc n) f h = and_in (h n (omega arith)) (every_in n f (λ k l. h k (omega arith)))
 
-pub every_more : (f : ℕ → Bool) (i : ℕ) → every i f ≡ true → f i ≡ true → every (i + 1) f ≡ true
-unfolding every ◌and◌
-every_more f i p q = rw (add-one, p, q)
-
-pub every-fails : (f : ℕ → Bool) (n i : ℕ) → i < n → f i ≡ false → false ≡ every n f
-every-fails f n i h e = sym (by-true (every n f) (λ p. not-both (every-at n f p i h) e))
-
-pub every-all : (f : ℕ → Bool) (n i : ℕ) → every i f ≡ true → i ≤ n → n ≤ i → true ≡ every n f
-every-all f n i e h k = rw (← le_antisymm h k) (sym e)
+-- what `all` answers over a list, where f is what its test says of each element
+pub every-list : {A : Type 0} (p : A → Bool) (d : A) (xs : List A) (n : ℕ) (f : ℕ → Bool) → length xs ≡ n → ((i : ℕ) → i < n → p (get_or xs i d) ≡ f i) → list_all p xs ≡ every n f
+every-list p d xs n f l h =
+    same_test _ _
+    (λ e. every_in n f (λ i k. sym (h i k) ∙ and_at (list_all p) p refl (λ _ _. refl) xs i d (omega arith) e))
+    (λ e. and_from_places (list_all p) p refl (λ _ _. refl) xs d (λ i k. h i (omega arith) ∙ every-at n f e i (omega arith)))

@@ -1,7 +1,7 @@
 -- The first unit of a section: its header, its declarations, then its entries; what the columns and the index hold in each case. Assumes nothing.
 use mathlib.Core.Path.{◌≡◌, refl, ap, ap₂, sym, ◌∙◌, subst}
-use Prim.Native.Nat.{ℕ, ◌-◌, ◌≤◌, ◌<◌}
-use Rattle.std.specs.Prelude.{Err, None, Ok, Option, Result, Some}
+use Prim.Native.Nat.{ℕ, min, ◌-◌, ◌≤◌, ◌<◌}
+use Rattle.std.specs.Prelude.{Option, Result}
 use mathlib.Core.List.{List, []}
 use native.Mathlib.Omega.{arith}
 use lib.ListN.{length, take, length-replicate}
@@ -94,6 +94,11 @@ module _ {w w' : Analysed} {offsets₀ parents₀ roots₀ ends₀ targets₀ of
   )
 
 -- ---- rooms
+
+-- which of the two `min` answers
+pub min-least : (a b : ℕ) → min a b ≡ least a b
+unfolding least
+min-least a b = pick-either (λ (n : ℕ). min a b ≡ n) (leb a b) a b (λ t. let k : a ≤ b = leb_yes {a = a} {b = b} t in omega arith) (λ t. let k : b < a = leb_no {a = a} {b = b} t in omega arith)
 
 pub least-left : (a b : ℕ) → least a b ≤ a
 unfolding least

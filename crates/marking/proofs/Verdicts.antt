@@ -1,21 +1,18 @@
--- What a test of liveness finds, by the tests that were made. Assumes nothing.
+-- What an entry of a range list does, by the tests that were made. Assumes nothing.
 use mathlib.Core.Path.{◌≡◌, sym, ◌∙◌}
 use Prim.Native.Nat.{ℕ, ◌≤◌, ◌<◌}
-use native.Mathlib.Omega.{arith}
 use mathlib.Core.Bool.{Bool, true, false}
 use mathlib.Core.List.{List}
-use lib.Dec.{leb, eqb}
 use borrow.Author.Tests.{le-leb, lt-leb, eq-eqb, ne_eqb}
-use Rattle.readers.specs.Choice.{pick, ◌and◌, ◌or◌}
+use Rattle.readers.specs.Choice.{pick}
 use Rattle.readers.specs.declared.cursor.Encoding.{Encoding}
-use Rattle.readers.specs.declared.attributes.Attribute.{Attribute}
 use Rattle.readers.specs.declared.operations.ListEntry.{ListEntry}
 use Rattle.marking.specs.Addresses.{is_tombstone, lookup_at}
-use Rattle.marking.specs.Roots.{on_lookup, turn_of, range_entry, low_pc}
-use Rattle.std.specs.Prelude.{Err, Ok, Result}
+use Rattle.marking.specs.Roots.{on_lookup, turn_of, range_entry}
+use Rattle.std.specs.Prelude.{Ok, Result}
 use Rattle.marking.specs.declared.addresses.Verdict.{Verdict}
 use Rattle.marking.specs.declared.root_test.RangeTurn.TheVariants.{On, Decided}
-use Rattle.marking.specs.declared.addresses.Verdict.TheVariants.{Live as is_live, Dead as is_dead}
+use Rattle.marking.specs.declared.addresses.Verdict.TheVariants.{Live as is_live}
 
 -- ---- an entry of a range list
 
@@ -68,53 +65,3 @@ module _ (e : Encoding) (table : List ℕ) (dead : Bool) (x : ListEntry) where
       pub kept : (x.kind ≡ 5 → ⊥) → b ≡ false → Decided (Ok is_live) ≡ turn_of (range_entry e table dead x)
       unfolding range_entry turn_of pick
       kept g t = rw (ne_eqb x.kind 1 k, lt-leb x.kind 3 h, ne_eqb x.kind 4 f, ne_eqb x.kind 5 g, sym q ∙ t)
-
--- ---- a low_pc
-
-module _ (e : Encoding) (table : List ℕ) (v : Attribute) where
-  abbrev pub indexed : Bool
-  indexed = eqb v.form 0x1b or (leb 0x29 v.form and leb v.form 0x2c) or eqb v.form 0x1f01
-
-  is_one : v.form ≡ 1 → indexed ≡ false
-  unfolding ◌or◌ ◌and◌
-  is_one k = rw k
-
-  module _ (b : Bool) (q : b ≡ is_tombstone v.field.value e.address_size) (k : v.form ≡ 1) where
-    pub address-dead : b ≡ true → Ok is_dead ≡ low_pc e table v
-    unfolding low_pc pick
-    address-dead t = rw (is_one k, eq-eqb v.form 1 k, sym q ∙ t)
-
-    pub address-live : b ≡ false → Ok is_live ≡ low_pc e table v
-    unfolding low_pc pick
-    address-live t = rw (is_one k, eq-eqb v.form 1 k, sym q ∙ t)
-
-  module _ (k : v.form ≡ 1 → ⊥) where
-    pub form-low : (v.form ≡ 27 → ⊥) → v.form < 41 → Ok is_live ≡ low_pc e table v
-    unfolding low_pc pick ◌or◌ ◌and◌
-    form-low n h = rw (ne_eqb v.form 27 n, lt-leb 41 v.form h, ne_eqb v.form 0x1f01 (λ z. absurd (omega arith)), ne_eqb v.form 1 k)
-
-    pub form-high : (v.form ≡ 27 → ⊥) → 41 ≤ v.form → 44 < v.form → (v.form ≡ 0x1f01 → ⊥) → Ok is_live ≡ low_pc e table v
-    unfolding low_pc pick ◌or◌ ◌and◌
-    form-high n l h g = rw (ne_eqb v.form 27 n, le-leb 41 v.form l, lt-leb v.form 44 h, ne_eqb v.form 0x1f01 g, ne_eqb v.form 1 k)
-
-  pub form-addrx : v.form ≡ 27 → indexed ≡ true
-  unfolding ◌or◌
-  form-addrx k = rw (eq-eqb v.form 27 k)
-
-  pub form-sized : (v.form ≡ 27 → ⊥) → 41 ≤ v.form → v.form ≤ 44 → indexed ≡ true
-  unfolding ◌or◌ ◌and◌
-  form-sized n l h = rw (ne_eqb v.form 27 n, le-leb 41 v.form l, le-leb v.form 44 h)
-
-  pub form-gnu : v.form ≡ 0x1f01 → indexed ≡ true
-  unfolding ◌or◌ ◌and◌
-  form-gnu k = rw k
-
-  module _ (l : Result Verdict ℕ) (q : l ≡ lookup_at table v.field.value) (i : indexed ≡ true) where
-    pub index-asked : l ≡ low_pc e table v
-    unfolding low_pc pick on_lookup
-    index-asked = of l q
-      where
-        of : (w : Result Verdict ℕ) → w ≡ lookup_at table v.field.value → w ≡ low_pc e table v
-        of (Ok is_live) p = rw (i, sym p)
-        of (Ok is_dead) p = rw (i, sym p)
-        of (Err n) p = rw (i, sym p)

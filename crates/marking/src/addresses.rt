@@ -13,19 +13,11 @@ pub enum Verdict {
 pub fn is_tombstone(address: u64, size: u8) -> bool
     ensures { result ≡ is_tombstone address size }
 {
-    if size == 4 {
-        if address == 0 {
-            return true;
-        }
-        return address == 0xffff_ffff;
+    match size {
+        4 => matches!(address, 0 | 0xffff_ffff),
+        8 => matches!(address, 0 | 0xffff_ffff_ffff_ffff),
+        _ => false,
     }
-    if size == 8 {
-        if address == 0 {
-            return true;
-        }
-        return address == 0xffff_ffff_ffff_ffff;
-    }
-    false
 }
 
 // An index of the address table, as gc.rs's `is_addr_live` answers it, one byte an index: 0 dead, 1 live; any other byte

@@ -226,6 +226,7 @@ fn analyse_entries(
     let mut nesting = Nesting::outside();
     let mut rnglists_base = list_base(e);
     let mut loclists_base = list_base(e);
+    // No for: the reader moves the cursor on, and not every step is an entry.
     loop {
         match c.entry_head(unit, abbreviations, from, index).ok_or(4)? {
             HeadStep::Entry(x) => {
@@ -302,12 +303,6 @@ fn analyse_entries(
     }
 }
 
-fn least_of(a: usize, b: usize) -> usize
-    ensures { result ≡ least a b }
-{
-    if a <= b { a } else { b }
-}
-
 // How many entries a table has room for: at most so many, and as many as its shortest column has.
 fn entry_room(
     entries: usize,
@@ -318,10 +313,7 @@ fn entry_room(
 ) -> usize
     ensures { result ≡ least entries (least (least offsets parents) (least roots reference_ends)) }
 {
-    least_of(
-        entries,
-        least_of(least_of(offsets, parents), least_of(roots, reference_ends)),
-    )
+    entries.min(offsets.min(parents).min(roots.min(reference_ends)))
 }
 
 // Makes every column zeros.
@@ -556,7 +548,7 @@ pub fn analyse<'a>(
                 addresses,
                 setting,
                 room,
-                least_of(references, targets.len()),
+                references.min(targets.len()),
                 offsets,
                 parents,
                 roots,

@@ -1,5 +1,5 @@
 // A keep list: tags in ascending order, two big-endian bytes each, and for each tag a byte, its treatment.
-ghost use Rattle.std.specs.Prelude.{◌≡◌, ◌/◌, ◌<◌, length, get_or};
+ghost use Rattle.std.specs.Prelude.{◌≡◌, ◌+◌, ◌*◌, get_or};
 ghost use Rattle.marking.specs.KeepList.{tags_in, keep_in, is_treatment, each_treats, ascends, keep_refusal};
 ghost use Rattle.marking.specs.KeepList.{treatment_of, treated};
 
@@ -18,56 +18,35 @@ const TAG_SIZE: usize = 2;
 fn is_treatment(k: u8) -> bool
     ensures { result ≡ is_treatment k }
 {
-    if k == ALWAYS_ROOT {
-        return true;
-    }
-    k == NEVER_ROOT
+    matches!(k, ALWAYS_ROOT | NEVER_ROOT)
 }
 
 // Whether each treatment is one.
 fn each_treats(treatments: &[u8]) -> bool
     ensures { result ≡ each_treats treatments.now }
 {
-    let mut i: usize = 0;
-    while i < treatments.len() {
-        if !is_treatment(treatments[i]) {
-            return false;
-        }
-        i += 1;
-    }
-    true
+    treatments.iter().all(|k| is_treatment(*k))
 }
 
-fn wide(x: u8) -> u64
-    ensures { result ≡ x }
+// The tag in its bytes.
+fn tag_of(bytes: &[u8; TAG_SIZE]) -> u64
+    ensures { result ≡ 256 * get_or bytes.now 0 0 + get_or bytes.now 1 0 }
 {
-    x as u64
-}
-
-// Tag i of the list.
-fn tag_at(tags: &[u8], i: usize) -> u64
-    requires { i < length tags.now / 2 }
-    ensures { result ≡ get_or (tags_in tags.now) i 0 }
-{
-    let high = tags[TAG_SIZE * i];
-    let low = tags[TAG_SIZE * i + 1];
-    256 * wide(high) + wide(low)
+    u64::from(u16::from_be_bytes(*bytes))
 }
 
 // Whether each tag is above the one before it.
 fn tags_ascend(tags: &[u8]) -> bool
     ensures { result ≡ ascends 0 (tags_in tags.now) }
 {
-    let count = tags.len() / TAG_SIZE;
+    let (listed, _) = tags.as_chunks::<TAG_SIZE>();
     let mut least: u64 = 0;
-    let mut i: usize = 0;
-    while i < count {
-        let tag = tag_at(tags, i);
+    for bytes in listed {
+        let tag = tag_of(bytes);
         if tag < least {
             return false;
         }
         least = tag + 1;
-        i += 1;
     }
     true
 }
@@ -77,10 +56,7 @@ fn tags_ascend(tags: &[u8]) -> bool
 pub(crate) fn keep_refusal(tags: &[u8], treatments: &[u8]) -> u8
     ensures { result ≡ keep_refusal (keep_in tags.now treatments.now) }
 {
-    if treatments.len() != tags.len() / TAG_SIZE {
-        return 19;
-    }
-    if !each_treats(treatments) {
+    if treatments.len() != tags.len() / TAG_SIZE || !each_treats(treatments) {
         return 19;
     }
     if !tags_ascend(tags) {
@@ -94,21 +70,11 @@ pub(crate) fn treatment(tags: &[u8], treatments: &[u8], tag: u64) -> u8
     requires { keep_refusal (keep_in tags.now treatments.now) ≡ 0 }
     ensures { result ≡ treatment_of (keep_in tags.now treatments.now) tag }
 {
-    let mut low: usize = 0;
-    let mut high = treatments.len();
-    while low < high {
-        let middle = low + (high - low) / 2;
-        let here = tag_at(tags, middle);
-        if here == tag {
-            return treatments[middle];
-        }
-        if here < tag {
-            low = middle + 1;
-        } else {
-            high = middle;
-        }
+    let (listed, _) = tags.as_chunks::<TAG_SIZE>();
+    match listed.binary_search_by_key(&tag, tag_of) {
+        Ok(i) => treatments[i],
+        Err(_) => NO_TREATMENT,
     }
-    NO_TREATMENT
 }
 
 // What a treatment makes of the root test's verdict. A refusal stays one.

@@ -18,72 +18,38 @@ use readers::tables::clear_bytes;
 fn parents_fit(parents: &[u64]) -> bool
     ensures { result ≡ every (length parents.now) (parent_fits parents.now) }
 {
-    let mut i = 0;
-    while i < parents.len() {
-        let p = parents[i];
-        if p != NO_PARENT {
-            let q = p as usize;
-            if q >= i {
-                return false;
-            }
-        }
-        i += 1;
-    }
-    true
+    parents
+        .iter()
+        .enumerate()
+        .all(|(i, &p)| p == NO_PARENT || (p as usize) < i)
 }
 
 // Whether each pair stays in the tree of n entries. An odd last number is no pair.
 fn pairs_fit(pairs: &[u64], n: usize) -> bool
     ensures { result ≡ every (length pairs.now / 2) (pair_fits pairs.now n) }
 {
-    let count = pairs.len() / 2;
-    let mut j = 0;
-    while j < count {
-        let s = pairs[2 * j] as usize;
-        if s >= n {
-            return false;
-        }
-        let t = pairs[2 * j + 1] as usize;
-        if t >= n {
-            return false;
-        }
-        j += 1;
-    }
-    true
+    let (whole, _) = pairs.as_chunks::<2>();
+    whole
+        .iter()
+        .all(|pair| (pair[0] as usize) < n && (pair[1] as usize) < n)
 }
 
 // Whether each root is 0 or 1.
 fn roots_fit(roots: &[u8]) -> bool
     ensures { result ≡ every (length roots.now) (root_fits roots.now) }
 {
-    let mut i = 0;
-    while i < roots.len() {
-        let q = roots[i];
-        if q > 1 {
-            return false;
-        }
-        i += 1;
-    }
-    true
+    roots.iter().all(|&q| q <= 1)
 }
 
 // Whether the graph can be marked with n marks.
 fn takes(parents: &[u64], pairs: &[u64], roots: &[u8], n: usize) -> bool
     ensures { result ≡ takes_of (graph parents.now pairs.now roots.now) n }
 {
-    if n != parents.len() {
-        return false;
-    }
-    if roots.len() != parents.len() {
-        return false;
-    }
-    if !parents_fit(parents) {
-        return false;
-    }
-    if !pairs_fit(pairs, parents.len()) {
-        return false;
-    }
-    roots_fit(roots)
+    n == parents.len()
+        && roots.len() == parents.len()
+        && parents_fit(parents)
+        && pairs_fit(pairs, parents.len())
+        && roots_fit(roots)
 }
 
 // ---- one pass; each answers whether a mark rose
@@ -95,14 +61,9 @@ fn along(pairs: &[u64], marks: &mut [u8]) -> bool
         (Along pairs.now marks.old)
         marks.old marks.new result }
 {
-    let n = pairs.len() / 2;
     let mut changed = false;
-    let mut j = 0;
-    while j < n {
-        if along_at(pairs, marks, j) {
-            changed = true;
-        }
-        j += 1;
+    for j in 0..pairs.len() / 2 {
+        changed |= along_at(pairs, marks, j);
     }
     changed
 }
@@ -115,12 +76,8 @@ fn up(parents: &[u64], marks: &mut [u8]) -> bool
         marks.old marks.new result }
 {
     let mut changed = false;
-    let mut i = marks.len();
-    while 0 < i {
-        i -= 1;
-        if up_at(parents, marks, i) {
-            changed = true;
-        }
+    for i in (0..marks.len()).rev() {
+        changed |= up_at(parents, marks, i);
     }
     changed
 }
@@ -136,13 +93,7 @@ fn round(parents: &[u64], pairs: &[u64], marks: &mut [u8]) -> bool
     let a = down(parents, marks);
     let b = along(pairs, marks);
     let c = up(parents, marks);
-    if a {
-        return true;
-    }
-    if b {
-        return true;
-    }
-    c
+    a || b || c
 }
 
 // ---- start and end
@@ -152,17 +103,12 @@ fn start(roots: &[u8], marks: &mut [u8])
     requires { length marks.old ≡ length roots.now }
     ensures { marks.new ≡ tab (length roots.now) (start_mark roots.now) }
 {
-    let mut i = 0;
-    while i < marks.len() {
-        let mut v = 1u8;
-        if i == 0 {
-            v = 2;
-        }
-        if roots[i] == 1 {
-            v = 3;
-        }
-        marks[i] = v;
-        i += 1;
+    for (i, mark) in marks.iter_mut().enumerate() {
+        *mark = match (roots[i], i) {
+            (1, _) => 3,
+            (_, 0) => 2,
+            _ => 1,
+        };
     }
 }
 
@@ -171,17 +117,11 @@ fn names_first(pairs: &[u64], marks: &[u8]) -> bool
     requires { PairsFit pairs.now marks.now }
     ensures { result ≡ names_first pairs.now marks.now }
 {
-    let n = pairs.len() / 2;
-    let mut j = 0;
-    while j < n {
-        let t = pairs[2 * j + 1];
-        if t == 0 {
-            let s = pairs[2 * j] as usize;
-            if marks[s] >= 2 {
-                return true;
-            }
+    let (whole, _) = pairs.as_chunks::<2>();
+    for pair in whole {
+        if pair[1] == 0 && marks[pair[0] as usize] >= 2 {
+            return true;
         }
-        j += 1;
     }
     false
 }
@@ -191,29 +131,16 @@ fn end_first(pairs: &[u64], marks: &mut [u8])
     requires { PairsFit pairs.now marks.old }
     ensures { marks.new ≡ end_first pairs.now marks.old }
 {
-    if marks.len() == 0 {
-        return;
+    if marks.len() > 0 {
+        marks[0] = if names_first(pairs, marks) { 3 } else { 2 };
     }
-    if names_first(pairs, marks) {
-        marks[0] = 3;
-        return;
-    }
-    marks[0] = 2;
 }
 
 // How many marks are retained or live.
 fn count_kept(marks: &[u8]) -> usize
     ensures { result ≡ kept_count marks.now }
 {
-    let mut n = 0;
-    let mut i = 0;
-    while i < marks.len() {
-        if marks[i] >= 2 {
-            n += 1;
-        }
-        i += 1;
-    }
-    n
+    marks.iter().filter(|m| **m >= 2).count()
 }
 
 // `mark` with memory: a work column, best of zeros and with two numbers an entry, changes its time alone, and so does
@@ -238,6 +165,7 @@ pub(crate) fn mark_with(
     }
     start(roots, marks);
     spread(parents, pairs, marks, work, reference_ends);
+    // No for: the first round that raises no mark is the last.
     while round(parents, pairs, marks) {}
     end_first(pairs, marks);
     Ok(count_kept(marks))

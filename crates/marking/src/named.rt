@@ -47,6 +47,7 @@ pub(crate) fn next_named(
 {
     let mut p = specs;
     let mut c = values;
+    // No for: two cursors move, as their readers say.
     loop {
         match p.attribute_spec(abbreviations)? {
             SpecStep::Attribute(a) => {

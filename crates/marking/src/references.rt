@@ -53,6 +53,7 @@ fn put_references(s: &[u8], e: Encoding, targets: &mut [u64], at: usize) -> usiz
 {
     let mut c = Cursor { at: 0 };
     let mut to = at;
+    // No for: the reader moves the cursor on.
     loop {
         let Some(r) = c.next_reference(s, e) else {
             return to;
@@ -93,10 +94,7 @@ fn scan_location(
         (result ≡ scanned_to (length targets.old) at found)
         × (targets.new ≡ table_after targets.old at found) }
 {
-    if x.kind == DW_LLE_base_addressx {
-        return Ok(at);
-    }
-    if x.kind == DW_LLE_base_address {
+    if x.kind == DW_LLE_base_addressx || x.kind == DW_LLE_base_address {
         return Ok(at);
     }
     if x.kind == DW_LLE_default_location {
@@ -121,6 +119,7 @@ fn scan_loclist_for_refs(
 {
     let mut c = start;
     let mut to = at;
+    // No for: the reader moves the cursor on.
     loop {
         match c.list_entry(s, true, e).ok_or(5)? {
             ListStep::Entry(x) => {
@@ -177,10 +176,8 @@ fn scan_attribute(
     if form == DW_FORM_exprloc {
         return scan_expression(field.expression(unit), e, targets, at);
     }
-    if form >= DW_FORM_ref1 {
-        if form <= DW_FORM_ref_udata {
-            return Ok(put(targets, at, UnitOffset(field.value)));
-        }
+    if form >= DW_FORM_ref1 && form <= DW_FORM_ref_udata {
+        return Ok(put(targets, at, UnitOffset(field.value)));
     }
     if a.name != DW_AT_location {
         return Ok(at);
@@ -240,6 +237,7 @@ pub fn scan_live_die_attrs(
     let mut p = specs;
     let mut c = values;
     let mut to = at;
+    // No for: two cursors move, as their readers say.
     loop {
         let Some(a) = next_attribute(unit, abbreviations, p, c, e) else {
             return Ok(EntryScan {

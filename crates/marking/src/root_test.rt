@@ -79,6 +79,7 @@ pub fn ranges_has_live_entry(ranges: &[u8], start: Cursor, e: Encoding) -> Resul
     ensures { result ≡ older_live e ranges.now (Some start) }
 {
     let mut c = start;
+    // No for: the reader moves the cursor on.
     loop {
         match c.list_entry(ranges, false, e).ok_or(5)? {
             ListStep::Entry(x) => {
@@ -112,10 +113,7 @@ pub fn range_pair(dead: bool, r: Operands, e: Encoding) -> RangeTurn
     } else if begin_dead {
         return RangeTurn::On(is_tombstone(end, e.address_size));
     }
-    if dead {
-        return RangeTurn::On(dead);
-    }
-    if begin_dead {
+    if dead || begin_dead {
         return RangeTurn::On(dead);
     }
     RangeTurn::Decided(Ok(Verdict::Live))
@@ -127,6 +125,7 @@ pub fn pairs_live(ranges: &[u8], start: Cursor, e: Encoding) -> Result<Verdict, 
 {
     let mut c = start;
     let mut base_dead = false;
+    // No for: the reader moves the cursor on.
     while c.at < ranges.len() {
         let r = c.row(ranges, ROW_ADDRESS_ADDRESS, e).ok_or(5)?;
         let third = r.third;
@@ -158,16 +157,10 @@ pub fn operation_live(
     if op.row == ROW_ADDRESS_INDEX {
         return lookup(table, first.value);
     }
-    if !fixed_addresses {
-        return Ok(Verdict::Dead);
+    if fixed_addresses && op.row == ROW_ADDRESS && !is_tombstone(first.value, e.address_size) {
+        return Ok(Verdict::Live);
     }
-    if op.row != ROW_ADDRESS {
-        return Ok(Verdict::Dead);
-    }
-    if is_tombstone(first.value, e.address_size) {
-        return Ok(Verdict::Dead);
-    }
-    Ok(Verdict::Live)
+    Ok(Verdict::Dead)
 }
 
 // Whether a variable's location holds a live index of the address table or, where fixed addresses count, an address
@@ -182,6 +175,7 @@ pub fn location_expr_live(
 {
     let mut c = Cursor { at: 0 };
     let mut live = false;
+    // No for: the reader moves the cursor on.
     while c.at < s.len() {
         let op = c.operation(s, e).ok_or(5)?;
         let next = op.next;
@@ -211,15 +205,11 @@ pub fn low_pc(v: Attribute, table: &[u8], e: Encoding) -> Result<Verdict, u8>
         }
         return Ok(Verdict::Live);
     }
-    if form != DW_FORM_addrx {
-        if form < DW_FORM_addrx1 {
-            return Ok(Verdict::Live);
-        }
-        if form > DW_FORM_addrx4 {
-            if form != DW_FORM_GNU_addr_index {
-                return Ok(Verdict::Live);
-            }
-        }
+    let indexed = form == DW_FORM_addrx
+        || (form >= DW_FORM_addrx1 && form <= DW_FORM_addrx4)
+        || form == DW_FORM_GNU_addr_index;
+    if !indexed {
+        return Ok(Verdict::Live);
     }
     lookup(table, field.value)
 }
@@ -240,6 +230,7 @@ pub fn low_pcs(
 {
     let mut p = specs;
     let mut c = values;
+    // No for: two cursors move, as their readers say.
     loop {
         let Some(a) = next_named(unit, abbreviations, p, c, DW_AT_low_pc, e) else {
             return Ok(Verdict::Dead);
@@ -273,6 +264,7 @@ pub fn locations_live(
 {
     let mut p = specs;
     let mut c = values;
+    // No for: two cursors move, as their readers say.
     loop {
         let Some(a) = next_named(unit, abbreviations, p, c, DW_AT_location, e) else {
             return Ok(Verdict::Dead);
@@ -345,6 +337,7 @@ pub fn first_ranges(
     let mut p = specs;
     let mut c = values;
     let mut verdict = Ok(Verdict::Dead);
+    // No for: two cursors move, as their readers say; in a list one.
     'attributes: loop {
         let Some(step) = p.attribute_spec(abbreviations) else {
             break 'attributes;
@@ -470,6 +463,7 @@ pub fn base_after(
     let mut p = specs;
     let mut c = values;
     let mut latest = base;
+    // No for: two cursors move, as their readers say.
     loop {
         let Some(a) = next_named(unit, abbreviations, p, c, name, e) else {
             return latest;

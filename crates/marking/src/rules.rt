@@ -2,9 +2,22 @@
 // list have in common. Each answers whether a mark rose.
 ghost use Rattle.std.specs.Prelude.{◌/◌, ◌<◌, length};
 ghost use Rattle.marking.specs.Inner.Passes.{Pass, WithParents, WithPairs, DownAt, AlongAt, UpAt, Down, ParentsFit};
-ghost use Rattle.marking.specs.Inner.Passes.{PairsFit};
+ghost use Rattle.marking.specs.Inner.Passes.{PairsFit, Raised};
 
 use readers::offsets::NO_PARENT;
+
+// Entry t gets a mark where entry s has one of so much at least, and its own is lower.
+fn raise(marks: &mut [u8], s: usize, least: u8, t: usize, mark: u8) -> bool
+    requires s_in_bounds { s < length marks.old }
+    requires t_in_bounds { t < length marks.old }
+    ensures { Raised marks.old marks.new s least t mark result }
+{
+    if marks[s] < least || marks[t] >= mark {
+        return false;
+    }
+    marks[t] = mark;
+    true
+}
 
 // Entry i becomes live where its parent is.
 pub(crate) fn down_at(parents: &[u64], marks: &mut [u8], i: usize) -> bool
@@ -15,18 +28,7 @@ pub(crate) fn down_at(parents: &[u64], marks: &mut [u8], i: usize) -> bool
         marks.old marks.new result }
 {
     let p = parents[i];
-    if p == NO_PARENT {
-        return false;
-    }
-    let q = p as usize;
-    if marks[q] < 3 {
-        return false;
-    }
-    if marks[i] >= 3 {
-        return false;
-    }
-    marks[i] = 3;
-    true
+    p != NO_PARENT && raise(marks, p as usize, 3, i, 3)
 }
 
 // What reference j names becomes live where its holder is kept, retained or live.
@@ -38,15 +40,8 @@ pub(crate) fn along_at(pairs: &[u64], marks: &mut [u8], j: usize) -> bool
         marks.old marks.new result }
 {
     let s = pairs[2 * j] as usize;
-    if marks[s] < 2 {
-        return false;
-    }
     let t = pairs[2 * j + 1] as usize;
-    if marks[t] >= 3 {
-        return false;
-    }
-    marks[t] = 3;
-    true
+    raise(marks, s, 2, t, 3)
 }
 
 // The parent of entry i is retained where i is kept.
@@ -57,19 +52,8 @@ pub(crate) fn up_at(parents: &[u64], marks: &mut [u8], i: usize) -> bool
         (UpAt parents.now marks.old i)
         marks.old marks.new result }
 {
-    if marks[i] < 2 {
-        return false;
-    }
     let p = parents[i];
-    if p == NO_PARENT {
-        return false;
-    }
-    let q = p as usize;
-    if marks[q] >= 2 {
-        return false;
-    }
-    marks[q] = 2;
-    true
+    p != NO_PARENT && raise(marks, i, 2, p as usize, 2)
 }
 
 // From parent to child, the first entry first, so that one pass reaches every depth.
@@ -80,12 +64,8 @@ pub(crate) fn down(parents: &[u64], marks: &mut [u8]) -> bool
         marks.old marks.new result }
 {
     let mut changed = false;
-    let mut i = 0;
-    while i < marks.len() {
-        if down_at(parents, marks, i) {
-            changed = true;
-        }
-        i += 1;
+    for i in 0..marks.len() {
+        changed |= down_at(parents, marks, i);
     }
     changed
 }

@@ -19,10 +19,7 @@ fn past_last(entries: usize) -> EntryIndex
 
 // An index as the work column holds it: of one that it has no room for, the largest number.
 fn stored(i: EntryIndex) -> u32 {
-    if i.0 > 0xffff_ffff {
-        return 0xffff_ffff;
-    }
-    i.0 as u32
+    u32::try_from(i.0).unwrap_or(u32::MAX)
 }
 
 // The end of entry k's descendants in a tree that ends at n, past k at least.
@@ -31,29 +28,14 @@ fn end_of(work: &[u32], k: EntryIndex, n: EntryIndex) -> EntryIndex
     ensures past { k.0 < result.0 }
     ensures inside { result.0 ≤ n.0 }
 {
-    let at = place(k);
-    if at >= work.len() {
-        return EntryIndex(k.0 + 1);
-    }
-    let end = work[at] as u64;
-    if end <= k.0 {
-        return EntryIndex(k.0 + 1);
-    }
-    if end > n.0 {
-        return n;
-    }
-    EntryIndex(end)
+    let end = work.get(place(k)).map_or(0, |end| u64::from(*end));
+    EntryIndex(end.clamp(k.0 + 1, n.0))
 }
 
 // The end that entry i has is this one at least.
 fn raise_end(work: &mut [u32], i: EntryIndex, end: EntryIndex) {
-    let at = place(i);
-    if at >= work.len() {
-        return;
-    }
-    let past = stored(end);
-    if work[at] < past {
-        work[at] = past;
+    if let Some(known) = work.get_mut(place(i)) {
+        *known = (*known).max(stored(end));
     }
 }
 
@@ -69,10 +51,8 @@ fn widen(parents: &[u64], work: &mut [u32], i: EntryIndex)
 
 // The ends of all entries' descendants, into a column of zeros, the last entry first.
 fn subtree_ends(parents: &[u64], work: &mut [u32]) {
-    let mut i = past_last(parents.len());
-    while 0 < i.0 {
-        i = EntryIndex(i.0 - 1);
-        widen(parents, work, i);
+    for i in (0..parents.len()).rev() {
+        widen(parents, work, EntryIndex(i as u64));
     }
 }
 
@@ -96,12 +76,9 @@ fn push_new(work: &mut [u32], top: usize, i: EntryIndex, before: u8) -> usize {
 // Every kept entry onto the empty stack.
 fn push_kept(marks: &[u8], work: &mut [u32]) -> usize {
     let mut top = marks.len();
-    let mut i = past_last(marks.len());
-    while 0 < i.0 {
-        i = EntryIndex(i.0 - 1);
-        let at = place(i);
-        if marks[at] >= 2 {
-            top = push(work, top, i);
+    for i in (0..marks.len()).rev() {
+        if marks[i] >= 2 {
+            top = push(work, top, EntryIndex(i as u64));
         }
     }
     top
@@ -154,6 +131,7 @@ fn descend(parents: &[u64], marks: &mut [u8], work: &mut [u32], i: EntryIndex, t
     let end = end_of(work, i, n);
     let mut to = top;
     let mut k = EntryIndex(i.0 + 1);
+    // No for: past a live entry all its descendants are passed at once.
     while k.0 < end.0 {
         let at = place(k);
         if marks[at] >= 3 {
@@ -197,32 +175,15 @@ fn follow_at(
 fn search_pair(pairs: &[u64], holder: EntryIndex) -> usize
     ensures { result ≤ length pairs.now / 2 }
 {
-    let mut low = 0;
-    let mut high = pairs.len() / 2;
-    while low < high {
-        let middle = low + (high - low) / 2;
-        if pairs[2 * middle] < holder.0 {
-            low = middle + 1;
-        } else {
-            high = middle;
-        }
-    }
-    low
+    let (whole, _) = pairs.as_chunks::<2>();
+    whole.partition_point(|pair| pair[0] < holder.0)
 }
 
 // Whether the pairs of a holder start at pair j, where pairs stand by holder: the one before it is of a holder below.
 fn starts_at(pairs: &[u64], holder: EntryIndex, j: usize) -> bool
     requires { j ≤ length pairs.now / 2 }
 {
-    if j < pairs.len() / 2 {
-        if pairs[2 * j] < holder.0 {
-            return false;
-        }
-    }
-    if j == 0 {
-        return true;
-    }
-    pairs[2 * (j - 1)] < holder.0
+    (j == pairs.len() / 2 || pairs[2 * j] >= holder.0) && (j == 0 || pairs[2 * (j - 1)] < holder.0)
 }
 
 // Where the references of a holder start, by where those of each entry end; past all of them where that is not told.
@@ -231,10 +192,7 @@ fn references_start(reference_ends: &[u64], holder: EntryIndex) -> u64 {
         return 0;
     }
     let before = place(EntryIndex(holder.0 - 1));
-    if before >= reference_ends.len() {
-        return 0xffff_ffff_ffff_ffff;
-    }
-    reference_ends[before]
+    reference_ends.get(before).map_or(u64::MAX, |end| *end)
 }
 
 // The first pair of a holder, where pairs stand by holder. Where each reference made a pair it stands where the holder's
@@ -243,10 +201,8 @@ fn first_pair(pairs: &[u64], holder: EntryIndex, reference_ends: &[u64]) -> usiz
     ensures { result ≤ length pairs.now / 2 }
 {
     let j = references_start(reference_ends, holder) as usize;
-    if j <= pairs.len() / 2 {
-        if starts_at(pairs, holder, j) {
-            return j;
-        }
+    if j <= pairs.len() / 2 && starts_at(pairs, holder, j) {
+        return j;
     }
     search_pair(pairs, holder)
 }
@@ -266,15 +222,12 @@ fn follow(
     ensures { Spread (WithBoth parents.now pairs.now)
         marks.old marks.new }
 {
-    let n = pairs.len() / 2;
     let mut to = top;
-    let mut j = first_pair(pairs, holder, reference_ends);
-    while j < n {
+    for j in first_pair(pairs, holder, reference_ends)..pairs.len() / 2 {
         if pairs[2 * j] != holder.0 {
             return to;
         }
         to = follow_at(parents, pairs, marks, work, j, to);
-        j += 1;
     }
     to
 }
@@ -322,13 +275,11 @@ fn visit_all(
         marks.old marks.new }
 {
     let mut to = top;
-    let mut i = 0;
-    while i < marks.len() {
+    for _ in 0..marks.len() {
         if to <= marks.len() {
             return;
         }
         to = visit(parents, pairs, marks, work, to - 1, reference_ends);
-        i += 1;
     }
 }
 

@@ -29,26 +29,15 @@ pub struct UnitMarking {
     pub marks: Result<UnitMarks, u8>,
 }
 
-// The entry that starts at an offset, among the first entries of a table in ascending order.
-fn find_entry(offsets: &[u64], entries: usize, target: UnitOffset) -> Option<EntryIndex>
-    requires { Searched offsets.now entries }
-    ensures { result ≡ as_entry (entry_from 0 (take entries offsets.now) target.0) }
+// The entry that starts at an offset, among those of entries in ascending order.
+fn find_entry(offsets: &[u64], target: UnitOffset) -> Option<EntryIndex>
+    requires { Searched offsets.now (length offsets.now) }
+    ensures { result ≡ as_entry (entry_from 0 offsets.now target.0) }
 {
-    let mut low: usize = 0;
-    let mut high = entries;
-    while low < high {
-        let middle = low + (high - low) / 2;
-        let offset = offsets[middle];
-        if offset == target.0 {
-            return Some(EntryIndex(middle as u64));
-        }
-        if offset < target.0 {
-            low = middle + 1;
-        } else {
-            high = middle;
-        }
+    match offsets.binary_search(&target.0) {
+        Ok(i) => Some(EntryIndex(i as u64)),
+        Err(_) => None,
     }
-    None
 }
 
 // ---- hints of where an entry stands: entry numbers by shifted offset. Each is tested before it is used.
@@ -60,45 +49,25 @@ fn bucket(offset: UnitOffset, shift: u32) -> usize {
 
 // How far offsets up to a last one are shifted so that they are places of a table of so many numbers.
 fn shift_for(last: u64, room: usize) -> u32 {
-    let mut most = last as usize;
-    let mut shift: u32 = 0;
-    while shift < 63 {
-        if most < room {
+    for shift in 0..63 {
+        if ((last >> shift) as usize) < room {
             return shift;
         }
-        most = most / 2;
-        shift += 1;
     }
-    shift
-}
-
-// The least of two numbers.
-fn least_within(a: usize, b: usize) -> usize
-    ensures left { result ≤ a }
-    ensures right { result ≤ b }
-{
-    if a < b { a } else { b }
+    63
 }
 
 // A hint into its place, if the table has it.
 fn put_hint(hints: &mut [u32], at: usize, hint: u32) {
-    if at >= hints.len() {
-        return;
+    if let Some(place) = hints.get_mut(at) {
+        *place = hint;
     }
-    hints[at] = hint;
 }
 
 // The numbers of the entries that 32 bits have room for, each in the bucket of its offset; of several the last stays.
-fn fill_hints(offsets: &[u64], entries: usize, hints: &mut [u32], shift: u32)
-    requires { entries ≤ length offsets.now }
-{
-    let most = least_within(entries, 0x1_0000_0000);
-    let mut i: usize = 0;
-    while i < most {
-        let at = bucket(UnitOffset(offsets[i]), shift);
-        let hint = i as u32;
-        put_hint(hints, at, hint);
-        i += 1;
+fn fill_hints(offsets: &[u64], hints: &mut [u32], shift: u32) {
+    for i in 0..offsets.len().min(0x1_0000_0000) {
+        put_hint(hints, bucket(UnitOffset(offsets[i]), shift), i as u32);
     }
 }
 
@@ -112,62 +81,44 @@ fn guess(offsets: &[u64], target: UnitOffset, hints: &[u32], shift: u32) -> usiz
     if i >= offsets.len() {
         return i;
     }
-    let mut steps: usize = 0;
-    while steps < 8 {
-        if offsets[i] <= target.0 {
-            return i;
-        }
-        if i == 0 {
+    for _ in 0..8 {
+        if offsets[i] <= target.0 || i == 0 {
             return i;
         }
         i -= 1;
-        steps += 1;
     }
     i
 }
 
 // The entry that starts at an offset, as find_entry has it; looked for first where the hints say.
-fn find_hinted(
-    offsets: &[u64],
-    entries: usize,
-    target: UnitOffset,
-    hints: &[u32],
-    shift: u32,
-) -> Option<EntryIndex>
-    requires { Searched offsets.now entries }
-    ensures { result ≡ as_entry (entry_from 0 (take entries offsets.now) target.0) }
+fn find_hinted(offsets: &[u64], target: UnitOffset, hints: &[u32], shift: u32) -> Option<EntryIndex>
+    requires { Searched offsets.now (length offsets.now) }
+    ensures { result ≡ as_entry (entry_from 0 offsets.now target.0) }
 {
     let i = guess(offsets, target, hints, shift);
-    if i < entries {
-        if offsets[i] == target.0 {
-            return Some(EntryIndex(i as u64));
-        }
+    if i < offsets.len() && offsets[i] == target.0 {
+        return Some(EntryIndex(i as u64));
     }
-    find_entry(offsets, entries, target)
+    find_entry(offsets, target)
 }
 
 // The pairs of an entry's references, from a place of the pairs on; one that names no entry makes none.
 fn resolve_entry(
     offsets: &[u64],
-    entries: usize,
-    targets: &[u64],
-    from: usize,
-    to: usize,
+    names: &[u64],
     holder: EntryIndex,
     pairs: &mut [u64],
     at: usize,
     hints: &[u32],
     shift: u32,
 ) -> usize
-    requires { ResolveInput offsets.now entries targets.now from to pairs.old at }
-    ensures { let names = take (to - from) (drop from targets.now) in
-        let found = pairs_of_entry (take entries offsets.now) holder.0 names in
+    requires { ResolveInput offsets.now (length offsets.now) names.now 0 (length names.now) pairs.old at }
+    ensures { let found = pairs_of_entry offsets.now holder.0 names.now in
         (2 * result ≡ 2 * at + length found) × (pairs.new ≡ put pairs.old (2 * at) found) }
 {
     let mut place = at;
-    let mut j = from;
-    while j < to {
-        match find_hinted(offsets, entries, UnitOffset(targets[j]), hints, shift) {
+    for name in names {
+        match find_hinted(offsets, UnitOffset(*name), hints, shift) {
             Some(named) => {
                 pairs[2 * place] = holder.0;
                 pairs[2 * place + 1] = named.0;
@@ -175,7 +126,6 @@ fn resolve_entry(
             }
             None => {}
         }
-        j += 1;
     }
     place
 }
@@ -200,47 +150,28 @@ fn resolve(
         targets.now pairs.old
         → pairs.new ≡ pad_to (length pairs.old) (pairs_in rows) }
 {
+    let starts = &offsets[..entries];
     let mut place: usize = 0;
     let mut from: usize = 0;
-    let mut i = EntryIndex(0);
-    while (i.0 as usize) < entries {
-        let k = i.0 as usize;
-        let to = reference_ends[k] as usize;
-        place = resolve_entry(
-            offsets, entries, targets, from, to, i, pairs, place, hints, shift,
-        );
+    for i in 0..entries {
+        let holder = EntryIndex(i as u64);
+        let to = reference_ends[i] as usize;
+        let names = &targets[from..to];
+        place = resolve_entry(starts, names, holder, pairs, place, hints, shift);
         from = to;
-        i = EntryIndex(i.0 + 1);
     }
     place
 }
 
-// The last offset of entries in ascending order, 0 where there are none.
-fn last_offset(offsets: &[u64], entries: usize) -> u64
-    requires { entries ≤ length offsets.now }
-{
-    if entries == 0 {
-        return 0;
-    }
-    offsets[entries - 1]
-}
-
 // The first places of a table made zeros.
 fn clear_first(table: &mut [u32], most: usize) {
-    let n = least_within(most, table.len());
-    let mut i: usize = 0;
-    while i < n {
-        table[i] = 0;
-        i += 1;
-    }
+    let n = most.min(table.len());
+    table[..n].fill(0);
 }
 
 // How many hints there are: two an entry, as far as the work column has room.
 fn hint_room(work: usize, entries: usize) -> usize {
-    if work / 2 < entries {
-        return work;
-    }
-    2 * entries
+    work.min(entries.saturating_mul(2))
 }
 
 // The pairs of all references, with hints in the work column; the hints are zeros again after.
@@ -263,8 +194,10 @@ fn resolve_by_hints(
         → pairs.new ≡ pad_to (length pairs.old) (pairs_in rows) }
 {
     let room = hint_room(work.len(), entries);
-    let shift = shift_for(last_offset(offsets, entries), room);
-    fill_hints(offsets, entries, work, shift);
+    let starts = &offsets[..entries];
+    let last = starts.last().map_or(0, |offset| *offset);
+    let shift = shift_for(last, room);
+    fill_hints(starts, work, shift);
     let n = resolve(
         offsets,
         reference_ends,

@@ -1,5 +1,5 @@
 -- What the passes of `mark` over the marks do, for every graph with the numbers that they look at.
-use Rattle.std.specs.Prelude.{ℕ, ◌+◌, ◌*◌, ◌/◌, ◌≤◌, ◌<◌, ◌≡◌, List, [], ◌∷◌, Bool, true, false, length, get_or, eqb, leb}
+use Rattle.std.specs.Prelude.{ℕ, ◌+◌, ◌*◌, ◌/◌, ◌≤◌, ◌<◌, ◌≡◌, List, [], ◌∷◌, Bool, true, false, length, get_or, set, eqb, leb}
 use Rattle.readers.specs.Choice.{pick, ◌and◌}
 use Rattle.marking.specs.Below.{any, every}
 use Rattle.readers.specs.Nesting.{no_parent}
@@ -30,6 +30,12 @@ pub record Pass (On : Graph → Type 0) (Done : Type 0) (m m' : List ℕ) (r : B
   pub more : r ≡ true → sum m < sum m'
   pub same : r ≡ false → m' ≡ m
   pub done : r ≡ false → Done
+
+-- entry t got the mark v where entry s has l at least and its own was lower; r says whether
+pub record Raised (m m' : List ℕ) (s l t v : ℕ) (r : Bool) : Type 0 where
+  pub rose : r ≡ true → (l ≤ get_or m s 0) × (get_or m t 0 < v) × (m' ≡ set m t v)
+  pub same : r ≡ false → m' ≡ m
+  pub done : r ≡ false → l ≤ get_or m s 0 → v ≤ get_or m t 0
 
 abbrev pub WithParents : List ℕ → Graph → Type 0
 WithParents ps g = g.parents ≡ ps

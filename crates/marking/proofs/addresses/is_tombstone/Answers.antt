@@ -1,18 +1,26 @@
 -- `is_tombstone` answers by size and address. Assumes nothing.
-use Rattle.marking.proofs.Lookups.{zero-4, ones-4, zero-8, ones-8, other-size}
+use native.Mathlib.Omega.{arith}
+use Rattle.std.proofs.lemmas.Bool.Decides.{nat_tests}
+use Rattle.readers.specs.Choice.{pick, ◌or◌}
+use Rattle.marking.specs.Addresses.{is_tombstone}
 use Rattle.marking.proofs.addresses.is_tombstone.Goals as goal
 
-pub returns-then-address-eq0 : goal.returns-then-address-eq0
-returns-then-address-eq0 c = search zero-4
+pub returns-in-0 : goal.returns-in-0
+unfolding is_tombstone pick ◌or◌
+returns-in-0 c = grind (arith, nat_tests)
 
-pub returns-then-size-eq4 : goal.returns-then-size-eq4
-returns-then-size-eq4 c = search ones-4
+pub returns-in_default-matches : goal.returns-in_default-matches
+unfolding is_tombstone pick ◌or◌
+returns-in_default-matches c = grind (arith, nat_tests)
 
-pub returns-then-address-eq0-2 : goal.returns-then-address-eq0-2
-returns-then-address-eq0-2 c = search zero-8
+pub returns-in-0-matches : goal.returns-in-0-matches
+unfolding is_tombstone pick ◌or◌
+returns-in-0-matches c = grind (arith, nat_tests)
 
-pub returns-then-size-eq8 : goal.returns-then-size-eq8
-returns-then-size-eq8 c = search ones-8
+pub returns-in_default-matches-2 : goal.returns-in_default-matches-2
+unfolding is_tombstone pick ◌or◌
+returns-in_default-matches-2 c = grind (arith, nat_tests)
 
-pub returns : goal.returns
-returns c = search other-size
+pub returns-in_default : goal.returns-in_default
+unfolding is_tombstone pick ◌or◌
+returns-in_default c = grind (arith, nat_tests)

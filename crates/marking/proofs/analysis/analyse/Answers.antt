@@ -2,7 +2,7 @@
 use mathlib.Core.Path.{sym, ◌∙◌}
 use lib.ListN.{length}
 use Rattle.marking.specs.Analysis.{header_by}
-use Rattle.marking.proofs.UnitAnalyses.{rooms-by, found-by, unit-ready, section-answered, section-unit}
+use Rattle.marking.proofs.UnitAnalyses.{min-least, rooms-by, found-by, unit-ready, section-answered, section-unit}
 use Rattle.marking.proofs.analysis.analyse.Goals as goal
 
 pub analyse_unit-analysis-requires : goal.analyse_unit-analysis-requires
@@ -11,7 +11,7 @@ analyse_unit-analysis-requires c = let f =
     unit-ready _ _ _ _ _ _ _
     (length c.args.offsets.now) (length c.args.parents.now) (length c.args.roots.now)
     (length c.args.reference_ends.now) (length c.args.targets.now) _ _ _ _ _
-    (sym c.in-Unit.is ∙ f.0) f.1 (record { rows = c.entry_room-room.ensures; names = c.least_of.ensures })
+    (sym c.in-Unit.is ∙ f.0) f.1 (record { rows = c.entry_room-room.ensures; names = c.min.ensures ∙ min-least _ _ })
     c.clear_columns.ensures
 
 pub returns-in-Answered : goal.returns-in-Answered
@@ -27,7 +27,7 @@ unfolding header_by
 returns-in-Unit c = let f = found-by _ _ _ _ _ _ (sym c.listed_header-header.ensures) c.find_unit.ensures in
     let a =
     section-unit _ _ _ _ _ _ _ _ _ _ _ _ _ _ _ f.1 _ (sym c.in-Unit.is ∙ f.0) _ _ _ _ _ _ _
-    (rooms-by (record { rows = c.entry_room-room.ensures; names = c.least_of.ensures })
+    (rooms-by (record { rows = c.entry_room-room.ensures; names = c.min.ensures ∙ min-least _ _ })
     c.clear_columns.auto.offsets c.clear_columns.auto.parents c.clear_columns.auto.roots c.clear_columns.auto.reference_ends c.clear_columns.auto.targets)
     c.clear_columns.auto.offsets c.clear_columns.auto.parents c.clear_columns.auto.roots c.clear_columns.auto.reference_ends c.clear_columns.auto.targets c.analyse_unit-analysis.ensures in
     ((c.listed_header-header.ensures, a.0), a.1)

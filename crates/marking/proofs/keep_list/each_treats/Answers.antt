@@ -1,18 +1,14 @@
--- `each_treats` asks for each treatment: what is left decides. Assumes nothing.
-use mathlib.Core.Path.{refl}
-use native.Mathlib.Omega.{arith}
-use borrow.Author.Tests.{not-true, not-false}
-use Rattle.marking.proofs.KeepLists.{treats-end, treats-no, treats-more}
+-- `each_treats` meets its contract: what `all` answers. Assumes nothing.
+use mathlib.Core.Path.{◌∙◌}
+use borrow.Author.Rules.{rules}
+use borrow.Author.Tests.{tests}
+use Rattle.std.proofs.lemmas.Iterator.{YieldsList-from_slice}
+use Rattle.std.proofs.lemmas.Iterator.Search.{all_from_yields_List}
+use Rattle.marking.specs.KeepList.{is_treatment}
+use Rattle.marking.proofs.KeepLists.{treats-list}
 use Rattle.marking.proofs.keep_list.each_treats.Goals as goal
 
-pub loop-i-init : goal.loop-i-init
-loop-i-init c = (omega arith, refl)
-
-pub returns-then-not-is_treatment : goal.returns-then-not-is_treatment
-returns-then-not-is_treatment c = search (treats-no, not-true)
-
-pub loop-i-preserved : goal.loop-i-preserved
-loop-i-preserved c = (omega arith, search (treats-more, not-false))
-
 pub returns : goal.returns
-returns c = search treats-end
+returns c =
+    all_from_yields_List is_treatment _ _ _ c.all.ensures.ran (YieldsList-from_slice c.args.treatments.now cc) (λ x b q k. search (rules, tests))
+    ∙ treats-list c.args.treatments.now

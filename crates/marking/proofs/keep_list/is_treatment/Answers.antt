@@ -1,9 +1,18 @@
--- `is_treatment` asks for 1, then for 2. Assumes nothing.
-use Rattle.marking.proofs.KeepLists.{always-treats, others-treat}
+-- `is_treatment` asks for 1 and for 2. Assumes nothing.
+use native.Mathlib.Omega.{arith}
+use Rattle.std.proofs.lemmas.Bool.Decides.{nat_tests}
+use Rattle.readers.specs.Choice.{◌or◌}
+use Rattle.marking.specs.KeepList.{is_treatment}
 use Rattle.marking.proofs.keep_list.is_treatment.Goals as goal
 
-pub returns-then-k-eq-ALWAYS_ROOT : goal.returns-then-k-eq-ALWAYS_ROOT
-returns-then-k-eq-ALWAYS_ROOT c = search always-treats
+pub returns-in-1 : goal.returns-in-1
+unfolding is_treatment ◌or◌
+returns-in-1 c = grind (arith, nat_tests)
 
-pub returns : goal.returns
-returns c = search others-treat
+pub returns-in_default : goal.returns-in_default
+unfolding is_treatment ◌or◌
+returns-in_default c = grind (arith, nat_tests)
+
+pub returns-in_default-2 : goal.returns-in_default-2
+unfolding is_treatment ◌or◌
+returns-in_default-2 c = grind (arith, nat_tests)

@@ -1,16 +1,17 @@
 -- `keep_refusal` asks in the order of the document. Assumes nothing.
-use borrow.Author.Tests.{not-true, not-false}
 use Rattle.marking.proofs.KeepLists.{refused-count, refused-treatment, refused-order, refused_none}
 use Rattle.marking.proofs.keep_list.keep_refusal.Goals as goal
+use Rattle.marking.proofs.keep_list.keep_refusal.Goals.{then-treatments-tags-via-then-treatments-tags, then-treatments-tags-via-else-treatments-tags+then-not-each_treats}
 
 pub returns-then-treatments-tags : goal.returns-then-treatments-tags
-returns-then-treatments-tags c = search refused-count
-
-pub returns-then-not-each_treats : goal.returns-then-not-each_treats
-returns-then-not-each_treats c = search (refused-treatment, not-true)
+returns-then-treatments-tags c =
+    elim c.then-treatments-tags.branch [
+      | then-treatments-tags-via-then-treatments-tags w ↦ search refused-count
+      | then-treatments-tags-via-else-treatments-tags+then-not-each_treats w ↦ search refused-treatment
+    ]
 
 pub returns-then-not-tags_ascend : goal.returns-then-not-tags_ascend
-returns-then-not-tags_ascend c = search (refused-order, not-true, not-false)
+returns-then-not-tags_ascend c = search refused-order
 
 pub returns : goal.returns
-returns c = search (refused_none, not-false)
+returns c = search refused_none

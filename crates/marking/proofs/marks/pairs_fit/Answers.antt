@@ -1,20 +1,20 @@
--- `pairs_fit` meets its contract: the pairs before j fit. Assumes nothing.
-use native.Mathlib.Omega.{arith}
-use Rattle.marking.proofs.Tests.{every-none, every_more, every-fails, every-all}
-use Rattle.marking.proofs.Answers.{pair-good, holder-bad, target-bad}
+-- `pairs_fit` meets its contract: what `all` answers. Assumes nothing.
+use mathlib.Core.Path.{refl, ◌∙◌}
+use mathlib.Core.List.{[]}
+use borrow.Author.Rules.{rules}
+use borrow.Author.Tests.{tests}
+use lib.Dec.{ltb}
+use lib.ListN.{get_or}
+use Rattle.std.proofs.lemmas.Iterator.{YieldsList-from_slice}
+use Rattle.std.proofs.lemmas.Iterator.Search.{all_from_yields_List}
+use Rattle.readers.specs.Choice.{◌and◌}
+use Rattle.marking.specs.Graph.{pair_fits}
+use Rattle.marking.proofs.Tests.{every-list}
+use Rattle.marking.proofs.Twos.{two_first, two_second}
 use Rattle.marking.proofs.marks.pairs_fit.Goals as goal
 
-pub loop-j-init : goal.loop-j-init
-loop-j-init c = (omega arith, every-none _)
-
-pub returns-then-s-n : goal.returns-then-s-n
-returns-then-s-n c = search (every-fails, holder-bad)
-
-pub returns-then-t-n : goal.returns-then-t-n
-returns-then-t-n c = search (every-fails, target-bad)
-
-pub loop-j-preserved : goal.loop-j-preserved
-loop-j-preserved c = (omega arith, search (every_more, pair-good))
-
 pub returns : goal.returns
-returns c = search every-all
+unfolding pair_fits ◌and◌
+returns c =
+    all_from_yields_List (λ q. ltb (get_or q 0 0) c.args.n and ltb (get_or q 1 0) c.args.n) _ _ _ c.all.ensures.ran (YieldsList-from_slice _ cc) (λ x b q k. search (rules, tests))
+    ∙ every-list _ [] _ _ (pair_fits c.args.pairs.now c.args.n) c.as_chunks.ensures.front_len (λ j h. rw (two_first _ _ c.args.pairs.now j c.as_chunks.ensures.front h, two_second _ _ c.args.pairs.now j c.as_chunks.ensures.front h) refl)

@@ -1,18 +1,19 @@
 -- `start` meets its contract: the first i marks are made. Assumes nothing.
-use mathlib.Core.Path.{refl}
-use mathlib.Core.Logic.{⊎_elim}
 use native.Mathlib.Omega.{arith}
-use lib.ListN.{length-set}
 use Rattle.marking.specs.Inner.Passes.{start_mark}
 use Rattle.marking.proofs.Tables.{made_more, made_all}
 use Rattle.marking.proofs.Starts.{start-root, start_first, start-rest}
 use Rattle.marking.proofs.marks.start.Goals as goal
-
-pub loop-i-init : goal.loop-i-init
-loop-i-init c = (omega arith, refl, λ k h. absurd (omega arith))
+use Rattle.marking.proofs.marks.start.Goals.{in-1-default, in_default-eq0, in_default}
 
 pub loop-i-preserved : goal.loop-i-preserved
-loop-i-preserved c = (omega arith, simp length-set (omega arith), made_more (start_mark c.args.roots.now) c.loop-i.marks c.loop-i.i c.if-roots-i-eq1.v c.loop-i.invariant.2 (omega arith) (⊎_elim (λ w. search start-root) (λ w. ⊎_elim (λ u. search start_first) (λ u. search start-rest) c.if-i-eq0.branch-raw) c.if-roots-i-eq1.branch-raw))
+loop-i-preserved c =
+    made_more (start_mark c.args.roots.now) c.loop-i.marks c.loop-i.i c.match-roots-i.mark c.loop-i.invariant (omega arith)
+    (elim c.match-roots-i.branch [
+      | in-1-default w ↦ start-root _ _ _ w.in-1-default.is-0 w.mark-is
+      | in_default-eq0 w ↦ start_first _ _ _ w.in_default-eq0.is-0.1 w.in_default-eq0.is-1 w.mark-is
+      | in_default w ↦ start-rest _ _ _ w.in_default.is-0.1 w.in_default.is-1.1 w.mark-is
+    ])
 
 pub returns : goal.returns
-returns c = made_all _ _ _ _ c.loop-i.invariant.2 (omega arith) c.loop-i-test.false
+returns c = made_all _ _ _ _ c.loop-i.invariant (omega arith) (omega arith)

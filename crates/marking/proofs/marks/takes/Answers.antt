@@ -1,18 +1,15 @@
--- `takes` meets its contract, one return for each test. Assumes nothing.
-use Rattle.marking.proofs.Answers.{marks-differ, roots-differ, parents-bad, pairs-bad, roots-decide}
+-- `takes` meets its contract: its tests are those of the definition. Assumes nothing.
+use native.Mathlib.Omega.{arith}
+use borrow.Author.Tests.{tests}
+use Rattle.std.proofs.lemmas.Bool.Decides.{nat_tests}
+use Rattle.readers.specs.Choice.{◌and◌}
+use Rattle.marking.specs.Graph.{takes, well_formed, references}
 use Rattle.marking.proofs.marks.takes.Goals as goal
 
-pub returns-then-n-parents : goal.returns-then-n-parents
-returns-then-n-parents c = search marks-differ
+pub returns-then-pairs_fit : goal.returns-then-pairs_fit
+unfolding takes well_formed references ◌and◌
+returns-then-pairs_fit c = grind (arith, nat_tests, tests)
 
-pub returns-then-roots-parents : goal.returns-then-roots-parents
-returns-then-roots-parents c = search roots-differ
-
-pub returns-then-not-parents_fit : goal.returns-then-not-parents_fit
-returns-then-not-parents_fit c = search parents-bad
-
-pub returns-then-not-pairs_fit : goal.returns-then-not-pairs_fit
-returns-then-not-pairs_fit c = search pairs-bad
-
-pub returns : goal.returns
-returns c = search roots-decide
+pub returns-else-pairs_fit : goal.returns-else-pairs_fit
+unfolding takes well_formed references ◌and◌
+returns-else-pairs_fit c = grind (arith, nat_tests, tests)

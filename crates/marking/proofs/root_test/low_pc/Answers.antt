@@ -1,19 +1,31 @@
 -- `low_pc` answers by the form. Assumes nothing.
-use mathlib.Core.Logic.{⊎_elim}
-use Rattle.marking.proofs.Verdicts.{address-dead, address-live, form-low, form-high, form-addrx, form-sized, form-gnu, index-asked}
+use native.Mathlib.Omega.{arith}
+use borrow.Author.Tests.{tests}
+use Rattle.std.proofs.lemmas.Bool.Decides.{nat_tests}
+use Rattle.readers.specs.Choice.{pick, ◌and◌, ◌or◌}
+use Rattle.marking.specs.Roots.{low_pc, on_lookup}
 use Rattle.marking.proofs.root_test.low_pc.Goals as goal
 
 pub returns-then-is_tombstone : goal.returns-then-is_tombstone
-returns-then-is_tombstone c = search address-dead
+unfolding low_pc pick ◌and◌ ◌or◌
+returns-then-is_tombstone c = grind (arith, nat_tests, tests)
 
 pub returns-then-form-eq-DW_FORM_addr : goal.returns-then-form-eq-DW_FORM_addr
-returns-then-form-eq-DW_FORM_addr c = search address-live
+unfolding low_pc pick ◌and◌ ◌or◌
+returns-then-form-eq-DW_FORM_addr c = grind (arith, nat_tests, tests)
 
-pub returns-then-form-lt-DW_FORM_addrx1 : goal.returns-then-form-lt-DW_FORM_addrx1
-returns-then-form-lt-DW_FORM_addrx1 c = search form-low
+pub returns-then-not-indexed : goal.returns-then-not-indexed
+unfolding low_pc pick ◌and◌ ◌or◌
+returns-then-not-indexed c = grind (arith, nat_tests, tests)
 
-pub returns-then-form-ne-DW_FORM_GNU_addr_index : goal.returns-then-form-ne-DW_FORM_GNU_addr_index
-returns-then-form-ne-DW_FORM_GNU_addr_index c = search form-high
+pub returns-in-Live : goal.returns-in-Live
+unfolding low_pc pick ◌and◌ ◌or◌ on_lookup
+returns-in-Live c = grind (arith, nat_tests, tests)
 
-pub returns : goal.returns
-returns c = ⊎_elim (λ w. search (index-asked, form-gnu)) (λ w. ⊎_elim (λ w. search (index-asked, form-sized)) (λ w. search (index-asked, form-addrx)) w) c.if-form-ne-DW_FORM_addrx.branch-raw
+pub returns-in-Dead : goal.returns-in-Dead
+unfolding low_pc pick ◌and◌ ◌or◌ on_lookup
+returns-in-Dead c = grind (arith, nat_tests, tests)
+
+pub returns-in-Fails : goal.returns-in-Fails
+unfolding low_pc pick ◌and◌ ◌or◌ on_lookup
+returns-in-Fails c = grind (arith, nat_tests, tests)

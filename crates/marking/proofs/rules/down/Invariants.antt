@@ -1,12 +1,7 @@
 -- `down` meets its contract: the turns so far are one pass, and find nothing to do where none of them did. Assumes nothing.
-use Prim.Native.Nat.{ℕ, ◌≤◌, ◌<◌, ◌-◌}
-use mathlib.Core.Path.{◌≡◌}
-use lib.ListN.{length}
+use Prim.Native.Nat.{ℕ, ◌<◌}
 use Rattle.marking.specs.Inner.Passes.{Pass, WithParents, DownAt}
 use Rattle.marking.proofs.rules.down.Given as goal
 
 abbrev pub invariant-loop-i : goal.invariant-loop-i
-invariant-loop-i l = (l.i ≤ length l.initial.marks) × (length l.marks ≡ length l.initial.marks) × Pass (WithParents l.parents) ((k : ℕ) → k < l.i → DownAt l.parents l.initial.marks k) l.initial.marks l.marks l.changed
-
-abbrev pub decreases-loop-i : goal.decreases-loop-i
-decreases-loop-i l = length l.initial.marks - l.i
+invariant-loop-i l = Pass (WithParents l.parents) ((k : ℕ) → k < l.i → DownAt l.parents l.initial.marks k) l.initial.marks l.marks l.changed

@@ -1,18 +1,12 @@
--- `down_at` meets its contract, one return for each case. Assumes nothing.
-use Rattle.marking.proofs.Passes.{parent-before, down-none, down-low, down-high, down-raise}
+-- `down_at` meets its contract: there is no parent, or its mark asks for one. Assumes nothing.
+use Rattle.marking.proofs.Passes.{parent-before, down-none, down-pass}
 use Rattle.marking.proofs.rules.down_at.Goals as goal
 
+pub raise-requires-clause-s_in_bounds : goal.raise-requires-clause-s_in_bounds
+raise-requires-clause-s_in_bounds c = search parent-before
+
 pub returns-then-p : goal.returns-then-p
-returns-then-p c = search down-none
+returns-then-p c = search down-pass
 
-pub bounds-marks-q : goal.bounds-marks-q
-bounds-marks-q c = search parent-before
-
-pub returns-then-marks-q-lt3 : goal.returns-then-marks-q-lt3
-returns-then-marks-q-lt3 c = search down-low
-
-pub returns-then-marks-i-ge3 : goal.returns-then-marks-i-ge3
-returns-then-marks-i-ge3 c = search down-high
-
-pub returns : goal.returns
-returns c = search down-raise
+pub returns-else-p : goal.returns-else-p
+returns-else-p c = search down-none

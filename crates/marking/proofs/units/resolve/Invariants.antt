@@ -1,4 +1,3 @@
-use Prim.Native.Nat.{◌-◌}
 use mathlib.Core.List.{List}
 use Rattle.marking.specs.Analysis.{EntryRow}
 use Rattle.marking.specs.Inner.Resolution.{ReferenceColumns}
@@ -6,7 +5,4 @@ use Rattle.marking.proofs.Columned.{Turning}
 use Rattle.marking.proofs.units.resolve.Given as goal
 
 abbrev pub invariant-loop-i : goal.invariant-loop-i
-invariant-loop-i l = (rows : List EntryRow) → ReferenceColumns rows l.offsets l.reference_ends l.entries l.targets l.initial.pairs → Turning rows l.initial.pairs l.pairs l.place l.from l.i.0
-
-abbrev pub decreases-loop-i : goal.decreases-loop-i
-decreases-loop-i l = l.entries - l.i.0
+invariant-loop-i l = (rows : List EntryRow) → ReferenceColumns rows l.offsets l.reference_ends l.entries l.targets l.initial.pairs → Turning rows l.initial.pairs l.pairs l.place l.from l.i
