@@ -175,7 +175,7 @@ module _ (e : Encoding) (fixed : Bool) (table : List ℕ) (op : Operation) where
 
   module _ (n : op.row ≡ 22 → ⊥) where
     module _ (f : fixed ≡ true) (k : op.row ≡ 2) (t : Bool) (q : t ≡ is_tombstone op.first.value e.address_size) where
-      pub address-live : t ≡ false → Live ≡ operation_live e fixed table op
+      pub address-live : t ≡ false → Ok is_live ≡ operation_live e fixed table op
       unfolding operation_live pick ◌and◌
       address-live v = rw (ne_eqb op.row 22 n, f, eq-eqb op.row 2 k, sym q ∙ v)
 

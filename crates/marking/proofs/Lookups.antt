@@ -1,5 +1,7 @@
 -- The address table, by the tests that were made. Assumes nothing.
-use mathlib.Core.Path.{◌≡◌}
+use Rattle.marking.specs.declared.addresses.Verdict.{Verdict}
+use Rattle.marking.specs.Roots.{on_lookup}
+use mathlib.Core.Path.{◌≡◌, refl}
 use Prim.Native.Nat.{ℕ, ◌≤◌, ◌<◌}
 use native.Mathlib.Omega.{arith}
 use mathlib.Core.Bool.{false}
@@ -9,9 +11,8 @@ use lib.Dec.{eqb}
 use borrow.Author.Tests.{lt-ltb, le-ltb, eq-eqb, ne_eqb}
 use Rattle.readers.specs.Choice.{pick}
 use Rattle.marking.specs.Addresses.{byte_liveness, lookup_at}
-use Rattle.std.specs.Prelude.{Ok}
-use Rattle.marking.specs.declared.addresses.Verdict.TheVariants.{Dead}
-use Rattle.marking.specs.declared.addresses.Verdict.TheVariants.{Live}
+use Rattle.std.specs.Prelude.{Ok, Err, Result}
+use Rattle.marking.specs.declared.addresses.Verdict.TheVariants.{Dead, Live}
 
 module _ (table : List ℕ) (index : ℕ) where
   pub no_table : length table ≡ 0 → Ok Live ≡ lookup_at table index
@@ -39,3 +40,10 @@ module _ (table : List ℕ) (index : ℕ) where
     unfolding lookup_at byte_liveness pick
     byte-other z o =
         rw (some-table, lt-ltb index (length table) h, ne_eqb (get_or table index 0) 0 z, ne_eqb (get_or table index 0) 1 o)
+
+-- what is looked up is its own verdict
+pub looked : (l : Result Verdict ℕ) → on_lookup l (λ r. r) (Ok Live) (Ok Dead) ≡ l
+unfolding on_lookup
+looked (Ok Live) = refl
+looked (Ok Dead) = refl
+looked (Err n) = refl

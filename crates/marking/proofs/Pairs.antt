@@ -135,8 +135,8 @@ module _ (offsets names : List ℕ) (holder : ℕ) (pairs₀ : List ℕ) (at : �
     pub pairing-room : j < length names → 2 * place + 2 ≤ length pairs
     pairing-room h = omega (arith, p.most, p.size, p.ready.room)
 
-    module _ (h : j < length names) (r : EntryFound) (q : r ≡ as_entry (entry_from 0 offsets (get_or names j 0))) where
-      pub pairing-none : r ≡ Nothing → Pairing pairs place (j + 1)
+    module _ (h : j < length names) (r : Option EntryIndex) (q : r ≡ as_entry (entry_from 0 offsets (get_or names j 0))) where
+      pub pairing-none : r ≡ None → Pairing pairs place (j + 1)
       unfolding pair_for
       pairing-none k =
           let same : made (j + 1) ≡ made j =

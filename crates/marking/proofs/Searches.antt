@@ -73,7 +73,7 @@ module _ (offsets : List ℕ) (t : ℕ) (s : Searched offsets (length offsets)) 
   pub entry-at : (m : ℕ) → m < length offsets → get_or offsets m 0 ≡ t → Some (record { 0 = m }) ≡ as_entry (entry_from 0 offsets t)
   unfolding as_entry
   entry-at m l q =
-      sym (ap as_entry (entry-some 0 0 offsets t ascending m l q ∙ ap (λ (k : ℕ). some k) (let z : 0 + m ≡ m = omega arith in z)))
+      sym (ap as_entry (entry-some 0 0 offsets t ascending m l q ∙ ap (λ (k : ℕ). Some k) (let z : 0 + m ≡ m = omega arith in z)))
 
   pub entry-nowhere : (i : ℕ) → IsBinarySearchResult (λ y. nat_cmp y t) offsets (Err i) → None ≡ as_entry (entry_from 0 offsets t)
   unfolding as_entry

@@ -1,7 +1,7 @@
 -- The first unit of a section: its header, its declarations, then its entries; what the columns and the index hold in each case. Assumes nothing.
 use mathlib.Core.Path.{◌≡◌, refl, ap, ap₂, sym, ◌∙◌, subst}
 use Prim.Native.Nat.{ℕ, min, ◌-◌, ◌≤◌, ◌<◌}
-use Rattle.std.specs.Prelude.{Option, Result}
+use Rattle.std.specs.Prelude.{Option, Result, Err, None, Ok, Some}
 use mathlib.Core.List.{List, []}
 use native.Mathlib.Omega.{arith}
 use lib.ListN.{length, take, length-replicate}

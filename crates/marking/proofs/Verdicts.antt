@@ -9,10 +9,10 @@ use Rattle.readers.specs.declared.cursor.Encoding.{Encoding}
 use Rattle.readers.specs.declared.operations.ListEntry.{ListEntry}
 use Rattle.marking.specs.Addresses.{is_tombstone, lookup_at}
 use Rattle.marking.specs.Roots.{on_lookup, turn_of, range_entry}
-use Rattle.std.specs.Prelude.{Ok, Result}
+use Rattle.std.specs.Prelude.{Ok, Result, Err}
 use Rattle.marking.specs.declared.addresses.Verdict.{Verdict}
 use Rattle.marking.specs.declared.root_test.RangeTurn.TheVariants.{On, Decided}
-use Rattle.marking.specs.declared.addresses.Verdict.TheVariants.{Live as is_live}
+use Rattle.marking.specs.declared.addresses.Verdict.TheVariants.{Live as is_live, Dead as is_dead}
 
 -- ---- an entry of a range list
 

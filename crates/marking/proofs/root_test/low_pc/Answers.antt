@@ -1,4 +1,5 @@
 -- `low_pc` answers by the form. Assumes nothing.
+use Rattle.marking.proofs.Lookups.{looked}
 use native.Mathlib.Omega.{arith}
 use borrow.Author.Tests.{tests}
 use Rattle.std.proofs.lemmas.Bool.Decides.{nat_tests}
@@ -18,14 +19,6 @@ pub returns-then-not-indexed : goal.returns-then-not-indexed
 unfolding low_pc pick ◌and◌ ◌or◌
 returns-then-not-indexed c = grind (arith, nat_tests, tests)
 
-pub returns-in-Live : goal.returns-in-Live
-unfolding low_pc pick ◌and◌ ◌or◌ on_lookup
-returns-in-Live c = grind (arith, nat_tests, tests)
-
-pub returns-in-Dead : goal.returns-in-Dead
-unfolding low_pc pick ◌and◌ ◌or◌ on_lookup
-returns-in-Dead c = grind (arith, nat_tests, tests)
-
-pub returns-in-Fails : goal.returns-in-Fails
-unfolding low_pc pick ◌and◌ ◌or◌ on_lookup
-returns-in-Fails c = grind (arith, nat_tests, tests)
+pub returns : goal.returns
+unfolding low_pc pick ◌and◌ ◌or◌
+returns c = let z = looked c.lookup.result in grind (arith, nat_tests, tests)
