@@ -113,19 +113,23 @@ module _ (s : List ℕ) (at : ℕ) (h : at < length s) (lo : get_or s at 0 < 128
       ∙ ap (λ (v : ℕ). Value v (cursor (at + 1))) (let e : get_or s at 0 + 2 ^ 64 - 128 ≡ 2 ^ 64 - 128 + get_or s at 0 = omega arith in e))
 
 -- the loop's invariant: k bytes from `from` on are behind
-pub record Reading (s : List ℕ) (from at low weight k : ℕ) : Type 0 where
+pub record Reading (s : List ℕ) (from low weight k : ℕ) : Type 0 where
   pub few : k ≤ 9
-  pub here : at ≡ from + k
   pub power : weight ≡ 128 ^ k
   pub small : low < 128 ^ k
-  pub answer : groups 10 (drop from s) ≡ pending (10 - k) k low (drop at s)
+  pub answer : groups 10 (drop from s) ≡ pending (10 - k) k low (drop (from + k) s)
 
-pub begins : (s : List ℕ) (at : ℕ) → Reading s at at 0 1 0
+pub begins : (s : List ℕ) (at : ℕ) → Reading s at 0 1 0
 unfolding pending
 begins s at =
-    record { few = omega arith; here = omega arith; power = refl; small = omega arith; answer = onto-nothing (groups 10 (drop at s)) }
+    record {
+      few = omega arith;
+      power = refl;
+      small = omega arith;
+      answer = onto-nothing (groups 10 (drop at s)) ∙ ap (λ i. pending 10 0 0 (drop i s)) (let e : at ≡ at + 0 = omega arith in e);
+    }
 
-module _ (s : List ℕ) (from at low weight k : ℕ) (r : Reading s from at low weight k) where
+module _ (s : List ℕ) (from low weight k : ℕ) (r : Reading s from low weight k) where
   -- one more group has room
   pub room : k < 9 → (b : ℕ) → b < 128 → low + b * weight < 2 ^ 63
   room h b hb =
@@ -135,64 +139,67 @@ module _ (s : List ℕ) (from at low weight k : ℕ) (r : Reading s from at low 
       let p : b * weight ≤ 127 * weight = mul-le-mul_right weight (omega arith) in
       omega arith
 
-  pub more : k < 9 → at < length s → 128 ≤ get_or s at 0 → get_or s at 0 < 256
-      → Reading s from (at + 1) (low + (get_or s at 0 - 128) * weight) (weight * 128) (k + 1)
+  pub more : k < 9 → from + k < length s → 128 ≤ get_or s (from + k) 0 → get_or s (from + k) 0 < 256
+      → Reading s from (low + (get_or s (from + k) 0 - 128) * weight) (weight * 128) (k + 1)
   more hk hi lo up =
+      let b : ℕ = get_or s (from + k) 0 in
       let e : weight ≡ 128 ^ k = r.power in
-      let p : (get_or s at 0 - 128) * weight ≤ 127 * weight = mul-le-mul_right weight (omega arith) in
+      let p : (b - 128) * weight ≤ 127 * weight = mul-le-mul_right weight (omega arith) in
       let j : 10 - k ≡ suc (10 - (k + 1)) = omega arith in
       let q : 128 ^ (k + 1) ≡ 128 ^ k * 128 = ap (λ x. 128 ^ x) (add-one k) ∙ pow-suc 128 k in
       record {
         few = omega arith;
-        here = omega arith;
         power = omega arith;
         small = omega arith;
-        answer = r.answer ∙ ap (λ x. pending x k low (drop at s)) j ∙ turn s at (10 - (k + 1)) k low hi lo
-            ∙ ap (λ x. pending (10 - (k + 1)) (k + 1) (low + (get_or s at 0 - 128) * x) (drop (at + 1) s)) (sym e);
+        answer = r.answer ∙ ap (λ x. pending x k low (drop (from + k) s)) j ∙ turn s (from + k) (10 - (k + 1)) k low hi lo
+            ∙ ap (λ x. pending (10 - (k + 1)) (k + 1) (low + (b - 128) * x) (drop (from + k + 1) s)) (sym e)
+            ∙ ap (λ i. pending (10 - (k + 1)) (k + 1) (low + (b - 128) * weight) (drop i s)) (let a : from + k + 1 ≡ from + (k + 1) = omega arith in a);
       }
 
-  pub ends-short : length s ≤ at → NoGroups ≡ groups_at s from
+  pub ends-short : length s ≤ from + k → NoGroups ≡ groups_at s from
   unfolding groups_at as_groups
-  ends-short h = sym (ap (as_groups from) (r.answer ∙ stops s at (10 - k) k low h))
+  ends-short h = sym (ap (as_groups from) (r.answer ∙ stops s (from + k) (10 - k) k low h))
 
-  found : at < length s → get_or s at 0 < 128 → groups 10 (drop from s) ≡ some (k, low + get_or s at 0 * weight, drop (at + 1) s)
+  found : from + k < length s → get_or s (from + k) 0 < 128
+      → groups 10 (drop from s) ≡ some (k, low + get_or s (from + k) 0 * weight, drop (from + k + 1) s)
   found hi lo =
       let j : 10 - k ≡ suc (9 - k) = (let f : k ≤ 9 = r.few in omega arith) in
-      r.answer ∙ ap (λ x. pending x k low (drop at s)) j ∙ last s at (9 - k) k low hi lo
-      ∙ ap (λ (x : ℕ). some (k, low + get_or s at 0 * x, drop (at + 1) s)) (sym r.power)
+      r.answer ∙ ap (λ x. pending x k low (drop (from + k) s)) j ∙ last s (from + k) (9 - k) k low hi lo
+      ∙ ap (λ (x : ℕ). some (k, low + get_or s (from + k) 0 * x, drop (from + k + 1) s)) (sym r.power)
 
   -- what was found, in its two parts
-  split : (h l : ℕ) → at < length s → get_or s at 0 < 128 → low + get_or s at 0 * weight ≡ l + h * 2 ^ 63 → l < 2 ^ 63
-      → Whole l h weight (cursor (at + 1)) ≡ groups_at s from
+  split : (h l : ℕ) → from + k < length s → get_or s (from + k) 0 < 128 → low + get_or s (from + k) 0 * weight ≡ l + h * 2 ^ 63 → l < 2 ^ 63
+      → Whole l h weight (cursor (from + k + 1)) ≡ groups_at s from
   unfolding groups_at as_groups
   split h l hi lo e hl =
-      let v : ℕ = low + get_or s at 0 * weight in
+      let v : ℕ = low + get_or s (from + k) 0 * weight in
       let e1 : l ≡ v % 2 ^ 63 = omega arith in
       let e2 : h ≡ v / 2 ^ 63 = omega arith in
-      let e3 : at + 1 ≡ from + suc k = (let f : at ≡ from + k = r.here in omega arith) in
-      ap (λ x. Whole x h weight (cursor (at + 1))) e1
-      ∙ ap (λ x. Whole (v % 2 ^ 63) x weight (cursor (at + 1))) e2
-      ∙ ap (λ x. Whole (v % 2 ^ 63) (v / 2 ^ 63) x (cursor (at + 1))) r.power
+      let e3 : from + k + 1 ≡ from + suc k = omega arith in
+      ap (λ x. Whole x h weight (cursor (from + k + 1))) e1
+      ∙ ap (λ x. Whole (v % 2 ^ 63) x weight (cursor (from + k + 1))) e2
+      ∙ ap (λ x. Whole (v % 2 ^ 63) (v / 2 ^ 63) x (cursor (from + k + 1))) r.power
       ∙ ap (λ x. Whole (v % 2 ^ 63) (v / 2 ^ 63) (128 ^ k) (cursor x)) e3
       ∙ sym (ap (as_groups from) (found hi lo))
 
-  pub ends-well : k < 9 → at < length s → get_or s at 0 < 128 → Whole (low + get_or s at 0 * weight) 0 weight (cursor (at + 1)) ≡ groups_at s from
-  ends-well hk hi lo = split 0 (low + get_or s at 0 * weight) hi lo (omega arith) (room hk (get_or s at 0) lo)
+  pub ends-well : k < 9 → from + k < length s → get_or s (from + k) 0 < 128
+      → Whole (low + get_or s (from + k) 0 * weight) 0 weight (cursor (from + k + 1)) ≡ groups_at s from
+  ends-well hk hi lo = split 0 (low + get_or s (from + k) 0 * weight) hi lo (omega arith) (room hk (get_or s (from + k) 0) lo)
 
-  pub ends-tenth : 9 ≤ k → at < length s → get_or s at 0 < 128 → Whole low (get_or s at 0) weight (cursor (at + 1)) ≡ groups_at s from
-  ends-tenth hk hi lo =
-      let f : k ≤ 9 = r.few in
-      let n : k ≡ 9 = omega arith in
-      let w : weight ≡ 2 ^ 63 = r.power ∙ ap (λ x. 128 ^ x) n in
-      let m : low < 2 ^ 63 = subst (λ x. low < 128 ^ x) n r.small in
-      split (get_or s at 0) low hi lo (ap (λ x. low + get_or s at 0 * x) w) m
+  -- the tenth byte
+  module _ (n : k ≡ 9) where
+    pub ends-tenth : from + 9 < length s → get_or s (from + 9) 0 < 128 → Whole low (get_or s (from + 9) 0) weight (cursor (from + 10)) ≡ groups_at s from
+    ends-tenth hi lo =
+        let w : weight ≡ 2 ^ 63 = r.power ∙ ap (λ x. 128 ^ x) n in
+        let m : low < 2 ^ 63 = subst (λ x. low < 128 ^ x) n r.small in
+        let e : get_or s (from + 9) 0 ≡ get_or s (from + k) 0 = ap (λ x. get_or s (from + x) 0) (sym n) in
+        let a : from + 10 ≡ from + k + 1 = omega arith in
+        ap₂ (λ x y. Whole low x weight (cursor y)) e a
+        ∙ split (get_or s (from + k) 0) low (omega arith) (omega arith) (ap (λ x. low + get_or s (from + k) 0 * x) w) m
 
-  pub ends-long : 9 ≤ k → at < length s → 128 ≤ get_or s at 0 → NoGroups ≡ groups_at s from
-  unfolding groups_at as_groups
-  ends-long hk hi lo =
-      let f : k ≤ 9 = r.few in
-      let n : k ≡ 9 = omega arith in
-      sym (ap (as_groups from) (r.answer ∙ ap (λ x. pending (10 - x) x low (drop at s)) n ∙ tenth s at low hi lo))
+    pub ends-long : from + 9 < length s → 128 ≤ get_or s (from + 9) 0 → NoGroups ≡ groups_at s from
+    unfolding groups_at as_groups
+    ends-long hi lo = sym (ap (as_groups from) (r.answer ∙ ap (λ x. pending (10 - x) x low (drop (from + x) s)) n ∙ tenth s (from + 9) low hi lo))
 
 -- ---- what a reader makes of the groups
 

@@ -53,7 +53,7 @@ pub enum Moved {
 pub fn left(s: &[u8], at: usize) -> usize
     ensures { result ≡ length s.now - at }
 {
-    if at < s.len() { s.len() - at } else { 0 }
+    s.len().saturating_sub(at)
 }
 
 // The number that four bytes are, the lowest first.
@@ -81,38 +81,36 @@ impl Cursor {
     pub fn groups(self, s: &[u8]) -> Groups
         ensures { result ≡ groups_at s.now self.at }
     {
-        let mut at = self.at;
+        let at = self.at;
+        let size = left(s, at);
         let mut low: u64 = 0;
         let mut weight: u64 = 1;
-        let mut i: usize = 0;
-        while i < 9 {
-            if at >= s.len() {
+        for k in 0..9 {
+            if k >= size {
                 return Groups::Unreadable;
             }
-            let b = s[at] as u64;
-            at += 1;
+            let b = s[at + k] as u64;
             if b < 128 {
                 return Groups::Whole {
                     low: low + b * weight,
                     high: 0,
                     weight,
-                    next: Cursor { at },
+                    next: Cursor { at: at + k + 1 },
                 };
             }
             low += (b - 128) * weight;
             weight *= 128;
-            i += 1;
         }
-        if at >= s.len() {
+        if size <= 9 {
             return Groups::Unreadable;
         }
-        let b = s[at] as u64;
+        let b = s[at + 9] as u64;
         if b < 128 {
             return Groups::Whole {
                 low,
                 high: b,
                 weight,
-                next: Cursor { at: at + 1 },
+                next: Cursor { at: at + 10 },
             };
         }
         Groups::Unreadable
@@ -295,22 +293,17 @@ impl Cursor {
         ensures { result ≡ fixed_at big_endian width s.now self.at }
     {
         let at = self.at;
-        if width > 8 {
-            return Number::Unreadable;
-        }
-        if width > left(s, at) {
+        if width > 8 || width > left(s, at) {
             return Number::Unreadable;
         }
         let mut value: u64 = 0;
-        let mut i: usize = 0;
-        while i < width {
+        for i in 0..width {
             let k = if big_endian {
                 at + i
             } else {
                 at + (width - 1 - i)
             };
             value = value * 256 + (s[k] as u64);
-            i += 1;
         }
         Number::Value(value, Cursor { at: at + width })
     }
@@ -346,12 +339,9 @@ impl Cursor {
     pub fn string(self, s: &[u8]) -> Moved
         ensures { result ≡ string_at s.now self.at }
     {
-        let mut at = self.at;
-        while at < s.len() {
-            let b = s[at];
-            at += 1;
-            if b == 0 {
-                return Moved::To(Cursor { at });
+        for at in self.at..s.len() {
+            if s[at] == 0 {
+                return Moved::To(Cursor { at: at + 1 });
             }
         }
         Moved::Unreadable

@@ -4,12 +4,14 @@ use Rattle.readers.proofs.Widths.{partial-none, partial-inside, partial-low, par
 use mathlib.Core.Path.{sym}
 use native.Mathlib.Omega.{arith}
 use Rattle.readers.proofs.cursor.Cursor.bytewise.Goals as goal
+use Rattle.readers.proofs.cursor.Cursor.bytewise.Goals.{then-width-gt8-via-then-width-gt8, then-width-gt8-via-else-width-gt8+then-width-left}
 
 pub returns-then-width-gt8 : goal.returns-then-width-gt8
-returns-then-width-gt8 c = sym (fixed-over _ _ _ _ c.if-width-gt8.true)
-
-pub returns-then-width-left : goal.returns-then-width-left
-returns-then-width-left c = sym (fixed-short _ _ _ _ (omega arith))
+returns-then-width-gt8 c =
+    elim c.then-width-gt8.branch [
+      then-width-gt8-via-then-width-gt8 w ↦ sym (fixed-over _ _ _ _ w.if-width-gt8.true)
+    | then-width-gt8-via-else-width-gt8+then-width-left w ↦ sym (fixed-short _ _ _ _ (omega arith))
+    ]
 
 pub loop-i-init : goal.loop-i-init
 loop-i-init c = partial-none _ _ _ _ (omega arith) (omega arith)

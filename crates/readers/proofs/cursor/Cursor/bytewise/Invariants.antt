@@ -5,6 +5,3 @@ use Rattle.readers.proofs.cursor.Cursor.bytewise.Given as goal
 
 abbrev pub invariant-loop-i : goal.invariant-loop-i
 invariant-loop-i l = Partial l.big_endian l.width l.s l.at l.value l.i
-
-abbrev pub decreases-loop-i : goal.decreases-loop-i
-decreases-loop-i l = l.width - l.i
