@@ -325,11 +325,6 @@ groups-fewer (suc k) (suc m) h (b ∷ s) =
     ∙ ap (λ o. bind o (fewer (suc k))) (sym (pick_no _ _ _ u)))
     (either (ltb b 128))
 
-pub short_none : (s : List ℕ) (at : ℕ) (r : Groups) → r ≡ groups_at s at → r ≡ NoGroups → Unreadable ≡ leb_at short s at
-unfolding short
-short_none s at r e g =
-    is_none short s at (bind-none within16 (groups-fewer 3 10 (omega arith) (drop at s) ∙ bind-none (fewer 3) (nowhere s at r e g)))
-
 power-back : (n m : ℕ) → 128 ^ n < 128 ^ m → n < m
 power-back n m h =
     ⊎_elim
@@ -372,38 +367,6 @@ module _ (s : List ℕ) (at low high weight : ℕ) (next : Cursor) (f : GroupsFo
   uleb-no h =
       let large : 2 ^ 64 ≤ f.value = omega arith in
       is_none uleb s at (bind-at _ f.read ∙ check-no _ _ (no_ltb {a = f.value} {b = 2 ^ 64} large))
-
-  -- at most three bytes and 16 bits
-
-  pub short-long : 16384 < weight → Unreadable ≡ leb_at short s at
-  unfolding short
-  short-long h =
-      let p : weight ≡ 128 ^ f.count = f.power in
-      let n : 2 < f.count = power-back 2 f.count (omega arith) in
-      is_none short s at
-      (bind-none within16 (groups-fewer 3 10 (omega arith) (drop at s) ∙ bind-at (fewer 3) f.read ∙ fewer-no 3 (f.count, f.value, f.rest) (omega arith)))
-
-  three : weight ≤ 16384 → (groups 3 (drop at s) ≡ some (f.count, f.value, f.rest)) × (f.value ≡ low)
-  three h =
-      let p : weight ≡ 128 ^ f.count = f.power in
-      let n : f.count < 3 = power-back f.count 3 (omega arith) in
-      let n3 : suc f.count ≤ 3 = omega arith in
-      let m : 128 ^ suc f.count ≤ 128 ^ 3 = pow-le-pow_right {n = 128} (omega arith) n3 in
-      let v : f.value < 128 ^ suc f.count = f.fits in
-      (groups-fewer 3 10 (omega arith) (drop at s) ∙ bind-at (fewer 3) f.read ∙ fewer-yes 3 (f.count, f.value, f.rest) n, omega arith)
-
-  pub short-yes : weight ≤ 16384 → low < 65536 → Value low next ≡ leb_at short s at
-  unfolding short within16
-  short-yes h k =
-      let e : f.value ≡ low = (three h).1 in
-      is_some short s at f.count low f.rest next f.past
-      (bind-at _ (three h).0 ∙ check-yes _ _ (yes_ltb {a = f.value} {b = 2 ^ 16} (omega arith)) ∙ ap (λ (x : ℕ). some (f.count, x, f.rest)) e)
-
-  pub short-no : weight ≤ 16384 → 65536 ≤ low → Unreadable ≡ leb_at short s at
-  unfolding short within16
-  short-no h k =
-      let e : f.value ≡ low = (three h).1 in
-      is_none short s at (bind-at _ (three h).0 ∙ check-no _ _ (no_ltb {a = f.value} {b = 2 ^ 16} (omega arith)))
 
   -- signed, in ten bytes
 
@@ -528,6 +491,72 @@ sleb-inside = leb-inside sleb sleb-law
 
 pub short-inside : (s : List ℕ) (at v : ℕ) (next : Cursor) → leb_at short s at ≡ Value v next → (at < next.at) × (next.at ≤ length s)
 short-inside = leb-inside short short-law
+
+-- ---- a number in at most three bytes and 16 bits, by the number in at most ten bytes and 64 bits
+
+uleb-groups : (o : Option Read) (t : Read) → bind o unsigned64 ≡ some t → o ≡ some t
+unfolding bind unsigned64
+uleb-groups none t e = let z : ◌≡◌ {A = ℕ} 0 1 = cc in absurd (omega arith)
+uleb-groups (some u) t e =
+    ⊎_elim
+    (λ y. sym (check-yes _ _ y) ∙ e)
+    (λ y. let n : none ≡ some t = sym (check-no _ (some u) y) ∙ e in let z : ◌≡◌ {A = ℕ} 0 1 = cc in absurd (omega arith))
+    (either (ltb u.1 (2 ^ 64)))
+
+within16-over : (t : Read) → 2 ^ 16 ≤ t.1 → within16 t ≡ none
+unfolding within16
+within16-over t h = check-no _ _ (no_ltb {a = t.1} {b = 2 ^ 16} h)
+
+over-either : (t : Read) → 2 ^ 16 ≤ t.1 → bind (fewer 3 t) within16 ≡ none
+over-either t h =
+    ⊎_elim
+    (λ y. bind-at within16 (fewer-yes 3 t (ltb_yes y)) ∙ within16-over t h)
+    (λ y. bind-none within16 (fewer-no 3 t (ltb_no y)))
+    (either (ltb t.0 3))
+
+short-by : (s : List ℕ) → short s ≡ bind (bind (groups 10 s) (fewer 3)) within16
+unfolding short
+short-by s = ap (λ o. bind o within16) (groups-fewer 3 10 (omega arith) s)
+
+-- where that can't be read
+pub short_none : (s : List ℕ) (at : ℕ) → leb_at uleb s at ≡ Unreadable → Unreadable ≡ leb_at short s at
+unfolding uleb bind unsigned64
+short_none s at g = is_none short s at (short-by (drop at s) ∙ over (groups 10 (drop at s)) (leb-nothing uleb s at g))
+  where
+    over : (o : Option Read) → bind o unsigned64 ≡ none → bind (bind o (fewer 3)) within16 ≡ none
+    over none e = refl
+    over (some t) e =
+        ⊎_elim
+        (λ y. let n : some t ≡ none = sym (check-yes _ (some t) y) ∙ e in let z : ◌≡◌ {A = ℕ} 0 1 = cc in absurd (omega arith))
+        (λ y. let l : 2 ^ 64 ≤ t.1 = ltb_no y in over-either t (omega arith))
+        (either (ltb t.1 (2 ^ 64)))
+
+module _ (s : List ℕ) (at v : ℕ) (next : Cursor) (g : leb_at uleb s at ≡ Value v next) where
+  of_groups : Got uleb s at v next
+  of_groups = leb-got uleb s at v next g
+
+  ten-groups : groups 10 (drop at s) ≡ some (of_groups.count, v, of_groups.rest)
+  unfolding uleb
+  ten-groups = uleb-groups (groups 10 (drop at s)) _ of_groups.read
+
+  pub short-yes : next.at - at ≤ 3 → v < 65536 → Value v next ≡ leb_at short s at
+  unfolding within16
+  short-yes h k =
+      let p : next.at ≡ at + suc of_groups.count = of_groups.past in
+      is_some short s at of_groups.count v of_groups.rest next (ap cursor p)
+      (short-by (drop at s)
+      ∙ bind-at within16 (bind-at (fewer 3) ten-groups ∙ fewer-yes 3 (of_groups.count, v, of_groups.rest) (omega arith))
+      ∙ check-yes _ _ (yes_ltb {a = v} {b = 2 ^ 16} k))
+
+  pub short-long : 3 < next.at - at → Unreadable ≡ leb_at short s at
+  short-long h =
+      let p : next.at ≡ at + suc of_groups.count = of_groups.past in
+      is_none short s at
+      (short-by (drop at s) ∙ bind-none within16 (bind-at (fewer 3) ten-groups ∙ fewer-no 3 (of_groups.count, v, of_groups.rest) (omega arith)))
+
+  pub short-no : 65536 ≤ v → Unreadable ≡ leb_at short s at
+  short-no k =
+      is_none short s at (short-by (drop at s) ∙ ap (λ o. bind o within16) (bind-at (fewer 3) ten-groups) ∙ over-either (of_groups.count, v, of_groups.rest) k)
 
 -- ---- the form numbers of DW_FORM_indirect
 

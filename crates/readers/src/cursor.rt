@@ -1,7 +1,7 @@
 // Where a reader stands, what it reads by, and the numbers that DWARF is made of. Each read takes the cursor and
 // hands the next one back.
-ghost use Rattle.std.specs.Prelude.{◌≡◌, ◌+◌, ◌*◌, ◌-◌, ◌≤◌, ◌<◌, Bool, length, take, drop};
-ghost use Rattle.readers.specs.Numbers.{fixed_value, uleb, sleb};
+ghost use Rattle.std.specs.Prelude.{◌≡◌, ◌-◌, Bool, length};
+ghost use Rattle.readers.specs.Numbers.{uleb, sleb};
 ghost use Rattle.readers.specs.Layout.{short};
 ghost use Rattle.readers.specs.Cursors.{groups_at, leb_at, fixed_at, skip_at, string_at, forms_at};
 
@@ -54,26 +54,6 @@ pub fn left(s: &[u8], at: usize) -> usize
     ensures { result ≡ length s.now - at }
 {
     s.len().saturating_sub(at)
-}
-
-// The number that four bytes are, the lowest first.
-fn four_bytes(a: u8, b: u8, c: u8, d: u8) -> u64
-    ensures is { result ≡ a + 256 * (b + 256 * (c + 256 * d)) }
-    ensures below { result < 4294967296 }
-{
-    (a as u64) + 256 * ((b as u64) + 256 * ((c as u64) + 256 * (d as u64)))
-}
-
-// The number that the four bytes at a place are.
-fn four_at(s: &[u8], at: usize, big_endian: bool) -> u64
-    requires { at + 4 ≤ length s.now }
-    ensures is { result ≡ fixed_value big_endian (take 4 (drop at s.now)) }
-    ensures below { result < 4294967296 }
-{
-    if big_endian {
-        return four_bytes(s[at + 3], s[at + 2], s[at + 1], s[at]);
-    }
-    four_bytes(s[at], s[at + 1], s[at + 2], s[at + 3])
 }
 
 impl Cursor {
@@ -197,41 +177,20 @@ impl Cursor {
         self.long_sleb(s)
     }
 
-    // A number in at most three bytes and 16 bits, of any length.
-    fn long_short(self, s: &[u8]) -> Number
-        ensures { result ≡ leb_at short s.now self.at }
-    {
-        match self.groups(s) {
-            Groups::Whole {
-                low,
-                high: _,
-                weight,
-                next,
-            } => {
-                if weight > 16384 {
-                    return Number::Unreadable;
-                }
-                if low < 65536 {
-                    return Number::Value(low, next);
-                }
-                Number::Unreadable
-            }
-            Groups::Unreadable => Number::Unreadable,
-        }
-    }
-
-    // A number in at most three bytes and 16 bits: a tag, a name or a form. Most have one byte.
+    // A number in at most three bytes and 16 bits: a tag, a name or a form.
     pub fn short(self, s: &[u8]) -> Number
         ensures { result ≡ leb_at short s.now self.at }
     {
-        let at = self.at;
-        if at < s.len() {
-            let b = s[at] as u64;
-            if b < 128 {
-                return Number::Value(b, Cursor { at: at + 1 });
+        match self.uleb(s) {
+            Number::Value(value, next) => {
+                if next.at - self.at <= 3 && value < 65536 {
+                    Number::Value(value, next)
+                } else {
+                    Number::Unreadable
+                }
             }
+            Number::Unreadable => Number::Unreadable,
         }
-        self.long_short(s)
     }
 
     // A byte.
@@ -250,10 +209,16 @@ impl Cursor {
         ensures { result ≡ fixed_at big_endian 4 s.now self.at }
     {
         let at = self.at;
-        if 4 > left(s, at) {
+        if left(s, at) < 4 {
             return Number::Unreadable;
         }
-        Number::Value(four_at(s, at, big_endian), Cursor { at: at + 4 })
+        let bytes = [s[at], s[at + 1], s[at + 2], s[at + 3]];
+        let value = if big_endian {
+            u32::from_be_bytes(bytes)
+        } else {
+            u32::from_le_bytes(bytes)
+        };
+        Number::Value(u64::from(value), Cursor { at: at + 4 })
     }
 
     // Eight bytes.
@@ -261,15 +226,25 @@ impl Cursor {
         ensures { result ≡ fixed_at big_endian 8 s.now self.at }
     {
         let at = self.at;
-        if 8 > left(s, at) {
+        if left(s, at) < 8 {
             return Number::Unreadable;
         }
-        let first = four_at(s, at, big_endian);
-        let last = four_at(s, at + 4, big_endian);
-        if big_endian {
-            return Number::Value(last + 4294967296 * first, Cursor { at: at + 8 });
-        }
-        Number::Value(first + 4294967296 * last, Cursor { at: at + 8 })
+        let bytes = [
+            s[at],
+            s[at + 1],
+            s[at + 2],
+            s[at + 3],
+            s[at + 4],
+            s[at + 5],
+            s[at + 6],
+            s[at + 7],
+        ];
+        let value = if big_endian {
+            u64::from_be_bytes(bytes)
+        } else {
+            u64::from_le_bytes(bytes)
+        };
+        Number::Value(value, Cursor { at: at + 8 })
     }
 
     // A number of a fixed width, at most eight bytes. Those of one, four and eight bytes are read at once.

@@ -1,10 +1,22 @@
--- `Cursor::short` meets its contract: one byte that says that none follows, or groups. Assumes nothing.
+-- `Cursor::short` meets its contract, by `uleb`. Assumes nothing.
+use mathlib.Core.Path.{sym, ◌∙◌}
 use native.Mathlib.Omega.{arith}
-use Rattle.readers.proofs.Lebs.{short-one}
+use Rattle.readers.proofs.Lebs.{uleb-inside, short-yes, short-long, short-no, short_none}
 use Rattle.readers.proofs.cursor.Cursor.short.Goals as goal
+use Rattle.readers.proofs.cursor.Cursor.short.Goals.{else-next-self-le3-via-then-next-self-le3+else-value-lt65536, else-next-self-le3-via-else-next-self-le3}
 
-pub overflow_cast-b : goal.overflow_cast-b
-overflow_cast-b c = omega (arith, c.type_inv.s c.args.self.at)
+pub overflow_sub-next : goal.overflow_sub-next
+overflow_sub-next c = omega (arith, uleb-inside _ _ _ _ (sym c.uleb.ensures ∙ c.in-Value.is))
 
-pub returns-then-b-lt128 : goal.returns-then-b-lt128
-returns-then-b-lt128 c = search short-one
+pub returns-in-Unreadable : goal.returns-in-Unreadable
+returns-in-Unreadable c = short_none _ _ (sym c.uleb.ensures ∙ c.in-Unreadable.is)
+
+pub returns-then-value-lt65536 : goal.returns-then-value-lt65536
+returns-then-value-lt65536 c = short-yes _ _ _ _ (sym c.uleb.ensures ∙ c.in-Value.is) c.if-next-self-le3.true c.if-value-lt65536.true
+
+pub returns-else-next-self-le3 : goal.returns-else-next-self-le3
+returns-else-next-self-le3 c =
+    elim c.else-next-self-le3.branch [
+      else-next-self-le3-via-then-next-self-le3+else-value-lt65536 w ↦ short-no _ _ _ _ (sym c.uleb.ensures ∙ c.in-Value.is) w.if-value-lt65536.false
+    | else-next-self-le3-via-else-next-self-le3 w ↦ short-long _ _ _ _ (sym c.uleb.ensures ∙ c.in-Value.is) w.if-next-self-le3.false
+    ]
