@@ -12,7 +12,7 @@ use Rattle.readers.specs.Nesting.{no_parent, opened, closed, top, nesting_of, ne
 use Rattle.readers.specs.declared.entries.Nesting.{Nesting}
 use Rattle.readers.specs.Inner.Nesting.{Chain}
 
-abbrev nesting : ℕ → ℕ → Nesting
+abbrev pub nesting : ℕ → ℕ → Nesting
 nesting depth parent = record { depth = depth; parent = record { 0 = parent } }
 
 pub opens : (children : Bool) (k : ℕ) (n : Nesting) → children ≡ true → n.depth < 18446744073709551615 → nesting (n.depth + 1) k ≡ nesting_opened children k n
@@ -36,7 +36,7 @@ pub closes : (parents : List ℕ) (n : Nesting) → (n.depth ≡ 0 → ⊥)
 unfolding nesting_closed
 closes parents n h = sym (pick_no _ _ _ (no_eqb {a = n.depth} {b = 0} h))
 
-get_d_any : (l : List ℕ) (i a b : ℕ) → i < length l → get_or l i a ≡ get_or l i b
+pub get_d_any : (l : List ℕ) (i a b : ℕ) → i < length l → get_or l i a ≡ get_or l i b
 get_d_any [] i a b h = absurd (omega arith)
 get_d_any (x ∷ l) zero a b h = refl
 get_d_any (x ∷ l) (suc i) a b h = get_d_any l i a b (omega arith)

@@ -1,6 +1,6 @@
 -- Tokens and rows from a place of a slice on: what each reads, in the terms of the cursor's methods; that it reads the same whatever it is used as;
 -- a row as three fields, one after the other; and how far each comes.
-use Prim.Native.Nat.{ℕ, suc, ◌+◌, ◌-◌, ◌≤◌, ◌<◌}
+use Prim.Native.Nat.{ℕ, suc, ◌+◌, ◌-◌, ◌≤◌, ◌<◌, min}
 use mathlib.Core.Path.{◌≡◌, refl, ap, ap₂, sym, ◌∙◌, subst}
 use mathlib.Core.Logic.{⊎_elim}
 use mathlib.Core.Bool.{Bool, true, false, not}
@@ -9,8 +9,8 @@ use mathlib.Core.List.{List, [], ◌∷◌, ◌++◌, append-nil}
 use native.Mathlib.Omega.{arith}
 use lib.ListN.{length, take, drop, length-append, length-drop, drop_of_length-le, get_or-eq_default}
 use lib.Seq.{length-take-le, drop-drop, take-nil, take_all}
-use lib.Dec.{T, leb, eqb}
-use mir.Facts.{yes_leb, no_leb, leb_yes, leb_no, no_eqb, eqb_yes, eqb_no}
+use lib.Dec.{T, leb, ltb, eqb}
+use mir.Facts.{yes_leb, no_leb, leb_yes, leb_no, ltb_yes, ltb_no, no_eqb, eqb_yes, eqb_no}
 use Rattle.readers.specs.Choice.{pick, check, bind}
 use Rattle.readers.proofs.Choice.{pick_yes, pick_no, either, All, all-some, all_none, all-check, all-bind, all-triv, Took, took-length}
 use Rattle.readers.specs.Numbers.{Groups, uleb, sleb}
@@ -562,6 +562,24 @@ module _ (s : List ℕ) (f : Field) where
   pub part-whole : take (f.end - f.start) (drop f.start s) ≡ part_of s f
   unfolding part_of
   part-whole = refl
+
+  -- from the least of the start and the end on, where neither is past the slice
+  pub part-cut : (start end : ℕ) → start ≡ min f.start end → end ≡ min f.end (length s) → take (end - start) (drop start s) ≡ part_of s f
+  part-cut start end p q =
+      ⊎_elim
+      (λ t.
+      let h : f.start < end = ltb_yes t in
+      let a : start ≡ f.start = omega arith in
+      ap (λ k. take (end - start) (drop k s)) a
+      ∙ ⊎_elim
+      (λ u. let l : f.end ≤ length s = leb_yes u in ap (λ n. take n (drop f.start s)) (let e : end - start ≡ f.end - f.start = omega arith in e) ∙ part-whole)
+      (λ u. let l : length s < f.end = leb_no u in ap (λ n. take n (drop f.start s)) (let e : end - start ≡ length s - f.start = omega arith in e) ∙ part-rest l)
+      (either (leb f.end (length s))))
+      (λ t.
+      let h : end ≤ f.start = ltb_no t in
+      ap (λ n. take n (drop start s)) (let e : end - start ≡ 0 = omega arith in e)
+      ∙ ⊎_elim (λ u. part_none (leb_yes u)) (λ u. let l : f.start < f.end = leb_no u in part-past (omega arith)) (either (leb f.end f.start)))
+      (either (ltb f.start end))
 
 -- ---- a row, field by field, as it is read
 

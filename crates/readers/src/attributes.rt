@@ -29,7 +29,7 @@ pub enum AttributeRead {
 }
 
 // The token of each form below 0x2d, by its code (specs/Forms.antt).
-const FORMS: [u8; 45] = [
+static FORMS: [u8; 45] = [
     UNREADABLE, // 0x00
     ADDRESS, // 0x01 DW_FORM_addr
     UNREADABLE, // 0x02
@@ -85,10 +85,7 @@ pub fn form_token(form: u64) -> u8
         let i = form as usize;
         return FORMS[i];
     }
-    if form == DW_FORM_GNU_str_index {
-        return ULEB128;
-    }
-    if form == DW_FORM_GNU_addr_index {
+    if form == DW_FORM_GNU_str_index || form == DW_FORM_GNU_addr_index {
         return ULEB128;
     }
     UNREADABLE
@@ -99,37 +96,22 @@ pub fn in_version(version: u16, form: u64) -> bool
     ensures { result ≡ in_version version form }
 {
     if version == 4 {
-        if form == DW_FORM_rnglistx {
-            return false;
-        }
-        return form != DW_FORM_loclistx;
+        form != DW_FORM_rnglistx && form != DW_FORM_loclistx
+    } else {
+        form != DW_FORM_GNU_addr_index
     }
-    form != DW_FORM_GNU_addr_index
 }
 
 // The number of the index list of a form: 0 ranges, 1 locations, 2 strings; 3 for a form that is no index.
 pub fn list_of(form: u64) -> u8
     ensures { result ≡ list_form form }
 {
-    if form == DW_FORM_rnglistx {
-        return 0;
+    match form {
+        DW_FORM_rnglistx => 0,
+        DW_FORM_loclistx => 1,
+        DW_FORM_strx | DW_FORM_strx1..=DW_FORM_strx4 | DW_FORM_GNU_str_index => 2,
+        _ => 3,
     }
-    if form == DW_FORM_loclistx {
-        return 1;
-    }
-    if form == DW_FORM_strx {
-        return 2;
-    }
-    if form < DW_FORM_strx1 {
-        return 3;
-    }
-    if form <= DW_FORM_strx4 {
-        return 2;
-    }
-    if form == DW_FORM_GNU_str_index {
-        return 2;
-    }
-    3
 }
 
 // The width of a token of a fixed width: no bytes, a number of 1 to 8 bytes, an address or an offset.
@@ -192,15 +174,11 @@ impl Cursor {
     fn value(self, s: &[u8], indirect: bool, name: u64, form: u64, e: Encoding) -> FieldRead
         ensures { result ≡ token_at e s.now self.at (value_token e indirect name form) }
     {
-        if name == DW_AT_sibling {
-            if form == DW_FORM_exprloc {
-                return FieldRead::Unreadable;
-            }
+        if name == DW_AT_sibling && form == DW_FORM_exprloc {
+            return FieldRead::Unreadable;
         }
-        if indirect {
-            if form == DW_FORM_implicit_const {
-                return FieldRead::Unreadable;
-            }
+        if indirect && form == DW_FORM_implicit_const {
+            return FieldRead::Unreadable;
         }
         if !in_version(e.version, form) {
             return FieldRead::Unreadable;

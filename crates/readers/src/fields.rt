@@ -36,107 +36,39 @@ pub enum OperandsRead {
     Unreadable,
 }
 
-// The first, the second and the third token of each row (specs/Operations.antt).
-const FIRST: [u8; 31] = [
-    UNREADABLE, // ROW_UNREADABLE
-    NO_BYTES, // ROW_NONE
-    ADDRESS, // ROW_ADDRESS
-    BYTES1, // ROW_BYTES1
-    BYTES2, // ROW_BYTES2
-    BYTES4, // ROW_BYTES4
-    BYTES8, // ROW_BYTES8
-    ULEB128, // ROW_ULEB128
-    SLEB128, // ROW_SLEB128
-    REGISTER, // ROW_REGISTER
-    REGISTER, // ROW_REGISTER_SLEB128
-    ULEB128, // ROW_ULEB128_ULEB128
-    BYTES2, // ROW_REFERENCE2
-    BYTES4, // ROW_REFERENCE4
-    ULEB128, // ROW_TYPE
-    REGISTER, // ROW_REGISTER_TYPE
-    BYTES1, // ROW_BYTES1_TYPE
-    ULEB128, // ROW_TYPE_BLOCK1
-    BLOCK_ULEB128, // ROW_BLOCK
-    EXPRLOC, // ROW_EXPRESSION
-    OFFSET, // ROW_OFFSET
-    OFFSET, // ROW_OFFSET_SLEB128
-    ULEB128, // ROW_ADDRESS_INDEX
-    ADDRESS, // ROW_ADDRESS_ADDRESS
-    ADDRESS, // ROW_ADDRESS_ULEB128
-    ULEB128, // ROW_ULEB128_ULEB128_EXPRESSION
-    ADDRESS, // ROW_ADDRESS_ADDRESS_EXPRESSION
-    ADDRESS, // ROW_ADDRESS_ULEB128_EXPRESSION
-    ULEB128, // ROW_ULEB128_ULEB128_BLOCK2
-    ULEB128, // ROW_ULEB128_BYTES4_BLOCK2
-    BYTES4, // ROW_BYTES4_BYTES4_BLOCK2
-];
-
-const SECOND: [u8; 31] = [
-    NO_BYTES, // ROW_UNREADABLE
-    NO_BYTES, // ROW_NONE
-    NO_BYTES, // ROW_ADDRESS
-    NO_BYTES, // ROW_BYTES1
-    NO_BYTES, // ROW_BYTES2
-    NO_BYTES, // ROW_BYTES4
-    NO_BYTES, // ROW_BYTES8
-    NO_BYTES, // ROW_ULEB128
-    NO_BYTES, // ROW_SLEB128
-    NO_BYTES, // ROW_REGISTER
-    SLEB128, // ROW_REGISTER_SLEB128
-    ULEB128, // ROW_ULEB128_ULEB128
-    NO_BYTES, // ROW_REFERENCE2
-    NO_BYTES, // ROW_REFERENCE4
-    NO_BYTES, // ROW_TYPE
-    ULEB128, // ROW_REGISTER_TYPE
-    ULEB128, // ROW_BYTES1_TYPE
-    BLOCK1, // ROW_TYPE_BLOCK1
-    NO_BYTES, // ROW_BLOCK
-    NO_BYTES, // ROW_EXPRESSION
-    NO_BYTES, // ROW_OFFSET
-    SLEB128, // ROW_OFFSET_SLEB128
-    NO_BYTES, // ROW_ADDRESS_INDEX
-    ADDRESS, // ROW_ADDRESS_ADDRESS
-    ULEB128, // ROW_ADDRESS_ULEB128
-    ULEB128, // ROW_ULEB128_ULEB128_EXPRESSION
-    ADDRESS, // ROW_ADDRESS_ADDRESS_EXPRESSION
-    ULEB128, // ROW_ADDRESS_ULEB128_EXPRESSION
-    ULEB128, // ROW_ULEB128_ULEB128_BLOCK2
-    BYTES4, // ROW_ULEB128_BYTES4_BLOCK2
-    BYTES4, // ROW_BYTES4_BYTES4_BLOCK2
-];
-
-const THIRD: [u8; 31] = [
-    NO_BYTES, // ROW_UNREADABLE
-    NO_BYTES, // ROW_NONE
-    NO_BYTES, // ROW_ADDRESS
-    NO_BYTES, // ROW_BYTES1
-    NO_BYTES, // ROW_BYTES2
-    NO_BYTES, // ROW_BYTES4
-    NO_BYTES, // ROW_BYTES8
-    NO_BYTES, // ROW_ULEB128
-    NO_BYTES, // ROW_SLEB128
-    NO_BYTES, // ROW_REGISTER
-    NO_BYTES, // ROW_REGISTER_SLEB128
-    NO_BYTES, // ROW_ULEB128_ULEB128
-    NO_BYTES, // ROW_REFERENCE2
-    NO_BYTES, // ROW_REFERENCE4
-    NO_BYTES, // ROW_TYPE
-    NO_BYTES, // ROW_REGISTER_TYPE
-    NO_BYTES, // ROW_BYTES1_TYPE
-    NO_BYTES, // ROW_TYPE_BLOCK1
-    NO_BYTES, // ROW_BLOCK
-    NO_BYTES, // ROW_EXPRESSION
-    NO_BYTES, // ROW_OFFSET
-    NO_BYTES, // ROW_OFFSET_SLEB128
-    NO_BYTES, // ROW_ADDRESS_INDEX
-    NO_BYTES, // ROW_ADDRESS_ADDRESS
-    NO_BYTES, // ROW_ADDRESS_ULEB128
-    EXPRLOC, // ROW_ULEB128_ULEB128_EXPRESSION
-    EXPRLOC, // ROW_ADDRESS_ADDRESS_EXPRESSION
-    EXPRLOC, // ROW_ADDRESS_ULEB128_EXPRESSION
-    BLOCK2, // ROW_ULEB128_ULEB128_BLOCK2
-    BLOCK2, // ROW_ULEB128_BYTES4_BLOCK2
-    BLOCK2, // ROW_BYTES4_BYTES4_BLOCK2
+// The three tokens of each row (specs/Operations.antt).
+static ROWS: [[u8; 3]; 31] = [
+    [UNREADABLE, NO_BYTES, NO_BYTES], // ROW_UNREADABLE
+    [NO_BYTES, NO_BYTES, NO_BYTES], // ROW_NONE
+    [ADDRESS, NO_BYTES, NO_BYTES], // ROW_ADDRESS
+    [BYTES1, NO_BYTES, NO_BYTES], // ROW_BYTES1
+    [BYTES2, NO_BYTES, NO_BYTES], // ROW_BYTES2
+    [BYTES4, NO_BYTES, NO_BYTES], // ROW_BYTES4
+    [BYTES8, NO_BYTES, NO_BYTES], // ROW_BYTES8
+    [ULEB128, NO_BYTES, NO_BYTES], // ROW_ULEB128
+    [SLEB128, NO_BYTES, NO_BYTES], // ROW_SLEB128
+    [REGISTER, NO_BYTES, NO_BYTES], // ROW_REGISTER
+    [REGISTER, SLEB128, NO_BYTES], // ROW_REGISTER_SLEB128
+    [ULEB128, ULEB128, NO_BYTES], // ROW_ULEB128_ULEB128
+    [BYTES2, NO_BYTES, NO_BYTES], // ROW_REFERENCE2
+    [BYTES4, NO_BYTES, NO_BYTES], // ROW_REFERENCE4
+    [ULEB128, NO_BYTES, NO_BYTES], // ROW_TYPE
+    [REGISTER, ULEB128, NO_BYTES], // ROW_REGISTER_TYPE
+    [BYTES1, ULEB128, NO_BYTES], // ROW_BYTES1_TYPE
+    [ULEB128, BLOCK1, NO_BYTES], // ROW_TYPE_BLOCK1
+    [BLOCK_ULEB128, NO_BYTES, NO_BYTES], // ROW_BLOCK
+    [EXPRLOC, NO_BYTES, NO_BYTES], // ROW_EXPRESSION
+    [OFFSET, NO_BYTES, NO_BYTES], // ROW_OFFSET
+    [OFFSET, SLEB128, NO_BYTES], // ROW_OFFSET_SLEB128
+    [ULEB128, NO_BYTES, NO_BYTES], // ROW_ADDRESS_INDEX
+    [ADDRESS, ADDRESS, NO_BYTES], // ROW_ADDRESS_ADDRESS
+    [ADDRESS, ULEB128, NO_BYTES], // ROW_ADDRESS_ULEB128
+    [ULEB128, ULEB128, EXPRLOC], // ROW_ULEB128_ULEB128_EXPRESSION
+    [ADDRESS, ADDRESS, EXPRLOC], // ROW_ADDRESS_ADDRESS_EXPRESSION
+    [ADDRESS, ULEB128, EXPRLOC], // ROW_ADDRESS_ULEB128_EXPRESSION
+    [ULEB128, ULEB128, BLOCK2], // ROW_ULEB128_ULEB128_BLOCK2
+    [ULEB128, BYTES4, BLOCK2], // ROW_ULEB128_BYTES4_BLOCK2
+    [BYTES4, BYTES4, BLOCK2], // ROW_BYTES4_BYTES4_BLOCK2
 ];
 
 pub(crate) fn number_field(at: usize, n: Number) -> FieldRead
@@ -284,16 +216,17 @@ impl Cursor {
         ensures { result ≡ row_at e s.now self.at layout }
     {
         let l = layout as usize;
-        if l >= 31 {
+        if l >= ROWS.len() {
             return OperandsRead::Unreadable;
         }
-        let FieldRead::Read(first) = self.field(s, FIRST[l], e) else {
+        let [one, two, three] = ROWS[l];
+        let FieldRead::Read(first) = self.field(s, one, e) else {
             return OperandsRead::Unreadable;
         };
-        let FieldRead::Read(second) = first.next().field(s, SECOND[l], e) else {
+        let FieldRead::Read(second) = first.next().field(s, two, e) else {
             return OperandsRead::Unreadable;
         };
-        let FieldRead::Read(third) = second.next().field(s, THIRD[l], e) else {
+        let FieldRead::Read(third) = second.next().field(s, three, e) else {
             return OperandsRead::Unreadable;
         };
         OperandsRead::Read(Operands {
@@ -318,18 +251,8 @@ impl Field {
     pub fn expression<'a>(self, s: &'a [u8]) -> &'a [u8]
         ensures { result.now ≡ part_of s.now self }
     {
-        let start = self.start;
-        let end = self.end;
-        if start >= end {
-            return &s[0..0];
-        }
-        if start >= s.len() {
-            return &s[0..0];
-        }
-        if end > s.len() {
-            return &s[start..];
-        }
-        &s[start..end]
+        let end = self.end.min(s.len());
+        &s[self.start.min(end)..end]
     }
 
     // The cursor past the field.

@@ -1,7 +1,7 @@
 // The header of a unit (DWARF 5, 7.5.1; DWARF 4, 7.5.1.1), within the domain: versions 4 and 5, both formats, either byte
 // order.
 ghost use Rattle.std.specs.Prelude.{◌≡◌, ◌≤◌, length, take};
-ghost use Rattle.readers.specs.Header.{length_bytes, fields4, fields5, header_fields, header_in, header_of};
+ghost use Rattle.readers.specs.Header.{length_bytes, fields4, fields5, header_fields, header_in, header_of, size_known};
 
 use crate::codes::{DW_UT_compile, DW_UT_split_compile};
 use crate::cursor::{Cursor, Encoding, Number, left};
@@ -40,6 +40,13 @@ pub fn length_bytes(offset_size: u8) -> usize
     if offset_size == 8 { 12 } else { 4 }
 }
 
+// Whether a size is that of an address or of an offset.
+pub(crate) fn size_known(n: u8) -> bool
+    ensures { result ≡ size_known n }
+{
+    n == 4 || n == 8
+}
+
 // The fields of version 5 after the version, which ends at a place.
 fn fields_5(unit: &[u8], at: usize, offset_size: u8, big_endian: bool) -> HeaderRead
     requires { at ≤ length unit.now }
@@ -49,20 +56,16 @@ fn fields_5(unit: &[u8], at: usize, offset_size: u8, big_endian: bool) -> Header
         return HeaderRead::Refused(1);
     }
     let unit_type = unit[at];
-    if unit_type != DW_UT_compile {
-        if unit_type != DW_UT_split_compile {
-            return HeaderRead::Refused(2);
-        }
+    if unit_type != DW_UT_compile && unit_type != DW_UT_split_compile {
+        return HeaderRead::Refused(2);
     }
     let size_at = at + 1;
     if unit.len() <= size_at {
         return HeaderRead::Refused(1);
     }
     let address_size = unit[size_at];
-    if address_size != 4 {
-        if address_size != 8 {
-            return HeaderRead::Refused(2);
-        }
+    if !size_known(address_size) {
+        return HeaderRead::Refused(2);
     }
     let width = offset_size as usize;
     let Number::Value(abbreviations, _) = (Cursor { at: at + 2 }).fixed(unit, width, big_endian)
@@ -111,10 +114,8 @@ fn fields_4(unit: &[u8], at: usize, offset_size: u8, big_endian: bool) -> Header
         return HeaderRead::Refused(1);
     }
     let address_size = unit[size_at];
-    if address_size != 4 {
-        if address_size != 8 {
-            return HeaderRead::Refused(2);
-        }
+    if !size_known(address_size) {
+        return HeaderRead::Refused(2);
     }
     HeaderRead::Unit(UnitHeader {
         encoding: Encoding {
@@ -189,9 +190,5 @@ pub fn unit_header(section: &[u8], big_endian: bool) -> HeaderRead
 pub fn unit_part<'a>(section: &'a [u8], h: UnitHeader) -> &'a [u8]
     ensures { result.now ≡ take h.end section.now }
 {
-    let end = h.end;
-    if end <= section.len() {
-        return &section[..end];
-    }
-    section
+    &section[..h.end.min(section.len())]
 }

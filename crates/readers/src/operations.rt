@@ -16,7 +16,7 @@ use crate::fields::{Field, FieldRead, OperandsRead, number_field};
 use crate::layouts::*;
 
 // The row of operands of each operation, by its code (specs/Operations.antt).
-const OPERATIONS: [u8; 256] = [
+static OPERATIONS: [u8; 256] = [
     ROW_UNREADABLE, // 0x00
     ROW_UNREADABLE, // 0x01
     ROW_UNREADABLE, // 0x02
@@ -388,36 +388,21 @@ pub fn operation_row(code: u8) -> u8
 pub fn list_row(version: u16, location: bool, kind: u8) -> u8
     ensures { result ≡ list_row version location kind }
 {
-    let i = kind as usize;
-    if location {
-        if version == 4 {
-            if i < 5 {
-                return LOCATION_ENTRIES_4[i];
-            }
-            return ROW_UNREADABLE;
-        }
-        if i < 9 {
-            return LOCATION_ENTRIES[i];
-        }
-        return ROW_UNREADABLE;
-    }
-    if i < 8 {
-        return RANGE_ENTRIES[i];
-    }
-    ROW_UNREADABLE
+    let rows: &[u8] = if !location {
+        &RANGE_ENTRIES
+    } else if version == 4 {
+        &LOCATION_ENTRIES_4
+    } else {
+        &LOCATION_ENTRIES
+    };
+    rows.get(kind as usize).copied().unwrap_or(ROW_UNREADABLE)
 }
 
 // Whether a row is one ULEB128 number.
 fn one_uleb128(row: u8) -> bool
     ensures { result ≡ true → OneUleb128 row }
 {
-    if row == ROW_ULEB128 {
-        return true;
-    }
-    if row == ROW_TYPE {
-        return true;
-    }
-    row == ROW_ADDRESS_INDEX
+    matches!(row, ROW_ULEB128 | ROW_TYPE | ROW_ADDRESS_INDEX)
 }
 
 // An operation of one operand, or of none: the second field has no bytes.

@@ -2,6 +2,7 @@
 use mathlib.Core.Path.{refl}
 use native.Mathlib.Omega.{arith}
 use Rattle.readers.proofs.Walks.{walking_start, walking-none, within, part-less, walking-entry, entry-fall, walking-own, own-fall, walking-end}
+use Rattle.readers.proofs.OwnReferences.{or-is}
 use Rattle.readers.proofs.expressions.+walk_expression.Goals as goal
 
 pub loop-c-init : goal.loop-c-init
@@ -23,7 +24,7 @@ pub loop-c-smaller-then-row-eq-ROW_EXPRESSION : goal.loop-c-smaller-then-row-eq-
 loop-c-smaller-then-row-eq-ROW_EXPRESSION t c = let i = within _ _ _ _ _ c.loop-c.invariant c.loop-c-test.true _ c.operation.ensures _ c.in-Read.is in omega (arith, i.0)
 
 pub loop-c-preserved-then-row-eq-ROW_EXPRESSION : goal.loop-c-preserved-then-row-eq-ROW_EXPRESSION
-loop-c-preserved-then-row-eq-ROW_EXPRESSION t c = walking-entry _ _ _ _ _ c.loop-c.invariant c.loop-c-test.true _ c.operation.ensures _ c.in-Read.is c.if-row-eq-ROW_EXPRESSION.true _ c.expression.ensures _ c.walk_expression.ensures _ _ _ c.in-Walked.is c.either-absolute.ensures
+loop-c-preserved-then-row-eq-ROW_EXPRESSION t c = walking-entry _ _ _ _ _ c.loop-c.invariant c.loop-c-test.true _ c.operation.ensures _ c.in-Read.is c.if-row-eq-ROW_EXPRESSION.true _ c.expression.ensures _ c.walk_expression.ensures _ _ _ c.in-Walked.is (or-is _ _)
 
 pub returns-in_default-own_walk : goal.returns-in_default-own_walk
 returns-in_default-own_walk t c = own-fall _ _ _ _ _ c.loop-c.invariant c.loop-c-test.true _ c.operation.ensures _ c.in-Read.is c.if-row-eq-ROW_EXPRESSION.false _ c.own_walk.ensures c.in_default-own_walk.is
@@ -35,7 +36,7 @@ pub loop-c-smaller : goal.loop-c-smaller
 loop-c-smaller t c = let i = within _ _ _ _ _ c.loop-c.invariant c.loop-c-test.true _ c.operation.ensures _ c.in-Read.is in omega (arith, i.0)
 
 pub loop-c-preserved : goal.loop-c-preserved
-loop-c-preserved t c = walking-own _ _ _ _ _ c.loop-c.invariant c.loop-c-test.true _ c.operation.ensures _ c.in-Read.is c.if-row-eq-ROW_EXPRESSION.false _ c.own_walk.ensures _ _ _ c.in-Walked-own_walk.is c.either-absolute-else-row-eq-ROW_EXPRESSION.ensures
+loop-c-preserved t c = walking-own _ _ _ _ _ c.loop-c.invariant c.loop-c-test.true _ c.operation.ensures _ c.in-Read.is c.if-row-eq-ROW_EXPRESSION.false _ c.own_walk.ensures _ _ _ c.in-Walked-own_walk.is (or-is _ _)
 
 pub returns : goal.returns
 returns t c = walking-end _ _ _ _ _ c.loop-c.invariant c.loop-c-test.false

@@ -12,10 +12,9 @@ returns-in_default c = sym (offset-none _ _ _ _ (sym c.fixed.ensures ∙ c.in_de
 pub returns-then-unit-size_at : goal.returns-then-unit-size_at
 returns-then-unit-size_at c = sym (size4-none _ _ _ _ _ _ (sym c.fixed.ensures ∙ c.in-Value.is) c.if-unit-size_at.true)
 
-pub returns-then-address_size-ne8 : goal.returns-then-address_size-ne8
-returns-then-address_size-ne8 c = sym (size4-other _ _ _ _ _ _ (sym c.fixed.ensures ∙ c.in-Value.is) c.if-unit-size_at.false c.if-address_size-ne4.true c.if-address_size-ne8.true)
+pub returns-then-not-size_known : goal.returns-then-not-size_known
+returns-then-not-size_known c = sym (size4-other _ _ _ _ _ _ (sym c.fixed.ensures ∙ c.in-Value.is) c.if-unit-size_at.false (sym c.size_known.ensures ∙ c.if-not-size_known.true))
 
 pub returns : goal.returns
 unfolding header_made encoding_of
-returns c = sym (size4-known _ _ _ _ _ _ (sym c.fixed.ensures ∙ c.in-Value.is) c.if-unit-size_at.false
-    (⊎_elim (λ w. inr w.if-address_size-ne8.false) (λ w. inl w.if-address_size-ne4.false) c.if-address_size-ne4.branch-raw))
+returns c = sym (size4-known _ _ _ _ _ _ (sym c.fixed.ensures ∙ c.in-Value.is) c.if-unit-size_at.false (sym c.size_known.ensures ∙ c.if-not-size_known.false))

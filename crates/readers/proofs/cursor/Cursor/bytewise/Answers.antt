@@ -9,8 +9,8 @@ use Rattle.readers.proofs.cursor.Cursor.bytewise.Goals.{then-width-gt8-via-then-
 pub returns-then-width-gt8 : goal.returns-then-width-gt8
 returns-then-width-gt8 c =
     elim c.then-width-gt8.branch [
-      then-width-gt8-via-then-width-gt8 w ↦ sym (fixed-over _ _ _ _ w.if-width-gt8.true)
-    | then-width-gt8-via-else-width-gt8+then-width-left w ↦ sym (fixed-short _ _ _ _ (omega arith))
+      | then-width-gt8-via-then-width-gt8 w ↦ sym (fixed-over _ _ _ _ w.if-width-gt8.true)
+      | then-width-gt8-via-else-width-gt8+then-width-left w ↦ sym (fixed-short _ _ _ _ (omega arith))
     ]
 
 pub loop-i-init : goal.loop-i-init

@@ -11,6 +11,6 @@ returns-then-left-lt8 c = sym (fixed-short _ _ _ _ (omega arith))
 pub returns : goal.returns
 returns c =
     elim c.if-big_endian.branch [
-      then-big_endian w ↦ eight-big _ _ (omega arith) _ _ w.if-big_endian.true (w.value-is ∙ w.from_be_bytes-value.ensures)
-    | else-big_endian w ↦ eight-little _ _ (omega arith) _ _ w.if-big_endian.false (w.value-is ∙ w.from_le_bytes-value.ensures)
+      | then-big_endian w ↦ eight-big _ _ (omega arith) _ _ w.if-big_endian.true (w.value-is ∙ w.from_be_bytes-value.ensures)
+      | else-big_endian w ↦ eight-little _ _ (omega arith) _ _ w.if-big_endian.false (w.value-is ∙ w.from_le_bytes-value.ensures)
     ]

@@ -4,4 +4,3 @@ use Rattle.readers.proofs.cursor.Cursor.groups.Given as goal
 
 abbrev pub invariant-loop-k : goal.invariant-loop-k
 invariant-loop-k l = Reading l.s l.at l.low l.weight l.k
-

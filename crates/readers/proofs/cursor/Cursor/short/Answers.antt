@@ -17,6 +17,6 @@ returns-then-value-lt65536 c = short-yes _ _ _ _ (sym c.uleb.ensures ∙ c.in-Va
 pub returns-else-next-self-le3 : goal.returns-else-next-self-le3
 returns-else-next-self-le3 c =
     elim c.else-next-self-le3.branch [
-      else-next-self-le3-via-then-next-self-le3+else-value-lt65536 w ↦ short-no _ _ _ _ (sym c.uleb.ensures ∙ c.in-Value.is) w.if-value-lt65536.false
-    | else-next-self-le3-via-else-next-self-le3 w ↦ short-long _ _ _ _ (sym c.uleb.ensures ∙ c.in-Value.is) w.if-next-self-le3.false
+      | else-next-self-le3-via-then-next-self-le3+else-value-lt65536 w ↦ short-no _ _ _ _ (sym c.uleb.ensures ∙ c.in-Value.is) w.if-value-lt65536.false
+      | else-next-self-le3-via-else-next-self-le3 w ↦ short-long _ _ _ _ (sym c.uleb.ensures ∙ c.in-Value.is) w.if-next-self-le3.false
     ]
