@@ -1,7 +1,5 @@
 -- `fields_4` meets its contract: after each field the answer is that of the fields from there on. Assumes nothing.
-use mathlib.Core.Logic.{inl, inr, ⊎_elim}
 use mathlib.Core.Path.{sym, ◌∙◌}
-use mathlib.Core.Logic.{inl, inr}
 use Rattle.readers.specs.Header.{header_made, encoding_of}
 use Rattle.readers.proofs.Headers.{offset-none, size4-none, size4-other, size4-known}
 use Rattle.readers.proofs.header.fields_4.Goals as goal

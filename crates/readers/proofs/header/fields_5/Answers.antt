@@ -1,5 +1,4 @@
 -- `fields_5` meets its contract: after each field the answer is that of the fields from there on. Assumes nothing.
-use mathlib.Core.Logic.{⊎_elim}
 use mathlib.Core.Path.{sym, ◌∙◌}
 use mathlib.Core.Logic.{inl, inr}
 use Rattle.readers.specs.Header.{header_made, encoding_of}
