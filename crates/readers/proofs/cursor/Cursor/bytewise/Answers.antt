@@ -1,6 +1,6 @@
 -- `Cursor::bytewise` meets its contract. The invariant: the value is that of the bytes that were read, the most significant ones of the number.
 use mathlib.Core.Logic.{⊎_elim}
-use Rattle.readers.proofs.Widths.{partial-none, partial-inside, partial-low, partial-more, partial-all, place-big, place-little, fixed-over, fixed-short}
+use Rattle.readers.proofs.Widths.{partial-none, partial-low, partial-more, partial-all, place-big, place-little, fixed-over, fixed-short}
 use mathlib.Core.Path.{sym}
 use native.Mathlib.Omega.{arith}
 use Rattle.readers.proofs.cursor.Cursor.bytewise.Goals as goal
@@ -18,12 +18,6 @@ loop-i-init c = partial-none _ _ _ _ (omega arith) (omega arith)
 
 pub overflow_mul-value : goal.overflow_mul-value
 overflow_mul-value c = omega (arith, partial-low _ _ _ _ _ _ c.loop-i.invariant c.loop-i-test.true)
-
-pub bounds-s-k : goal.bounds-s-k
-bounds-s-k c = partial-inside _ _ _ _ _ _ c.loop-i.invariant _ ((⊎_elim (λ b. place-big _ _ _ _ _ b.if-big_endian.true b.k-is) (λ b. place-little _ _ _ _ _ b.if-big_endian.false b.k-is) c.if-big_endian.branch-raw)) c.loop-i-test.true
-
-pub overflow_cast-value : goal.overflow_cast-value
-overflow_cast-value c = omega (arith, c.type_inv.s c.if-big_endian.k)
 
 pub overflow_add-value : goal.overflow_add-value
 overflow_add-value c = omega (arith, c.type_inv.s c.if-big_endian.k, partial-low _ _ _ _ _ _ c.loop-i.invariant c.loop-i-test.true)

@@ -1,9 +1,5 @@
-use mathlib.Core.Path.{refl}
 use Rattle.readers.proofs.Yields.{onward-end, onward-none, onward-entry, less-entry, less-next, onward-own, onward-pass}
 use Rattle.readers.proofs.cursor.Cursor.next_reference.Goals as goal
-
-pub loop-c-init : goal.loop-c-init
-loop-c-init c = refl
 
 pub returns-in_default : goal.returns-in_default
 returns-in_default c = onward-none _ _ _ _ c.loop-c.invariant c.loop-c-test.true _ c.operation.ensures c.in_default.is

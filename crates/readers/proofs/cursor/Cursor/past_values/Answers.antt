@@ -6,9 +6,6 @@ use Rattle.readers.proofs.Specs.{attribute-inside}
 use Rattle.readers.proofs.Values.{values-past, values-stuck, values-last, values-bad}
 use Rattle.readers.proofs.cursor.Cursor.past_values.Goals as goal
 
-pub loop-a-init : goal.loop-a-init
-loop-a-init c = refl
-
 pub returns-in_default : goal.returns-in_default
 returns-in_default c = values-stuck _ _ _ _ _ _
     (sym c.attribute_spec.ensures ∙ c.in-Attribute.is)

@@ -1,11 +1,8 @@
 -- `Cursor::search` meets its contract. The invariant: the search from here on finds what the whole one does. Assumes nothing.
-use mathlib.Core.Path.{refl, sym, ◌∙◌}
+use mathlib.Core.Path.{sym, ◌∙◌}
 use native.Mathlib.Omega.{arith}
 use Rattle.readers.proofs.Declarations.{declaration-ahead, search-hit, search-more, search-last, search-bad, search-end}
 use Rattle.readers.proofs.cursor.Cursor.search.Goals as goal
-
-pub loop-c-init : goal.loop-c-init
-loop-c-init c = refl
 
 pub returns-then-d-code : goal.returns-then-d-code
 returns-then-d-code c = search-hit _ _ _ _ _ _ c.loop-c-test.true (sym c.declaration.ensures ∙ c.in-Declaration.is) c.if-d-code.true ∙ sym c.loop-c.invariant
