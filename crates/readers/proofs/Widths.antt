@@ -247,14 +247,6 @@ module _ (s : List ℕ) (at : ℕ) where
         subst (λ x. Value v (cursor (at + 8)) ≡ fixed_at x 8 s at) (sym b)
         (fixed-of true 8 (omega arith) h _ eight-there v (q ∙ turned-eight _ _ _ _ _ _ _ _))
 
--- the answer of a width that was looked at
-module _ (big : Bool) (w : ℕ) (s : List ℕ) (at : ℕ) (r : Number) where
-  pub width_one : w ≡ 1 → ((b : Bool) → r ≡ fixed_at b 1 s at) → r ≡ fixed_at big w s at
-  width_one q h = h big ∙ ap (λ (n : ℕ). fixed_at big n s at) (sym q)
-
-  pub width_is : (n : ℕ) → w ≡ n → r ≡ fixed_at big n s at → r ≡ fixed_at big w s at
-  width_is n q h = h ∙ ap (λ (n : ℕ). fixed_at big n s at) (sym q)
-
 -- ---- a run of bytes
 
 pub skip-over : (s : List ℕ) (at n : ℕ) → length s - at < n → Nowhere ≡ skip_at s at n

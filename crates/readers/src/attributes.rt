@@ -118,13 +118,11 @@ pub fn list_of(form: u64) -> u8
 fn width_of(token: u8, e: Encoding) -> usize
     ensures { result ≡ width_of e token }
 {
-    if token <= BYTES8 {
-        return token as usize;
+    match token {
+        ..=BYTES8 => token as usize,
+        ADDRESS => e.address_size as usize,
+        _ => e.offset_size as usize,
     }
-    if token == ADDRESS {
-        return e.address_size as usize;
-    }
-    e.offset_size as usize
 }
 
 // A value in a form, by what its field reads.

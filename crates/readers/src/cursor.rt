@@ -251,16 +251,12 @@ impl Cursor {
     pub fn fixed(self, s: &[u8], width: usize, big_endian: bool) -> Number
         ensures { result ≡ fixed_at big_endian width s.now self.at }
     {
-        if width == 1 {
-            return self.byte(s);
+        match width {
+            1 => self.byte(s),
+            4 => self.four(s, big_endian),
+            8 => self.eight(s, big_endian),
+            _ => self.bytewise(s, width, big_endian),
         }
-        if width == 4 {
-            return self.four(s, big_endian);
-        }
-        if width == 8 {
-            return self.eight(s, big_endian);
-        }
-        self.bytewise(s, width, big_endian)
     }
 
     // A number of a fixed width, byte by byte.

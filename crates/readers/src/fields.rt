@@ -132,16 +132,12 @@ impl Cursor {
     fn number(self, s: &[u8], token: u8, e: Encoding) -> Number
         ensures { result ≡ number_at e s.now self.at token }
     {
-        if token <= BYTES8 {
-            return self.fixed(s, token as usize, e.big_endian);
+        match token {
+            ..=BYTES8 => self.fixed(s, token as usize, e.big_endian),
+            ADDRESS => self.address(s, e),
+            OFFSET => self.offset(s, e),
+            _ => self.uleb(s),
         }
-        if token == ADDRESS {
-            return self.address(s, e);
-        }
-        if token == OFFSET {
-            return self.offset(s, e);
-        }
-        self.uleb(s)
     }
 
     // A token by its number (specs/Tokens.antt).

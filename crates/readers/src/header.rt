@@ -142,13 +142,11 @@ fn header_fields(unit: &[u8], offset_size: u8, big_endian: bool) -> HeaderRead
         return HeaderRead::Refused(1);
     };
     let at = next.at;
-    if version == 5 {
-        return fields_5(unit, at, offset_size, big_endian);
+    match version {
+        5 => fields_5(unit, at, offset_size, big_endian),
+        4 => fields_4(unit, at, offset_size, big_endian),
+        _ => HeaderRead::Refused(2),
     }
-    if version == 4 {
-        return fields_4(unit, at, offset_size, big_endian);
-    }
-    HeaderRead::Refused(2)
 }
 
 // The header of a unit that is the so many bytes after its length field; all of them must be there.
