@@ -135,29 +135,21 @@ pub fn walk_expression(s: &[u8], e: Encoding) -> Walk
         let row = op.row;
         let first = op.first;
         let next = op.next;
-        if row == ROW_EXPRESSION {
-            let Walk::Walked {
-                references: more,
-                absolute: named,
-            } = walk_expression(first.expression(s), e)
-            else {
-                return Walk::Unreadable;
-            };
-            references += more;
-            absolute |= named;
-            c = next;
+        let walk = if row == ROW_EXPRESSION {
+            walk_expression(first.expression(s), e)
         } else {
-            let Walk::Walked {
-                references: more,
-                absolute: named,
-            } = own_walk(op)
-            else {
-                return Walk::Unreadable;
-            };
-            references += more;
-            absolute |= named;
-            c = next;
-        }
+            own_walk(op)
+        };
+        let Walk::Walked {
+            references: more,
+            absolute: named,
+        } = walk
+        else {
+            return Walk::Unreadable;
+        };
+        references += more;
+        absolute |= named;
+        c = next;
     }
     Walk::Walked {
         references,
