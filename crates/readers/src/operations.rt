@@ -1,9 +1,9 @@
 // Operations of expressions, and entries of range and location lists: a code and its row of operands.
-ghost use Rattle.std.specs.Prelude.{◌≡◌, true};
+ghost use Rattle.std.specs.Prelude.{◌≡◌};
 ghost use Rattle.readers.specs.Operations.{operation_row, list_row};
 ghost use Rattle.readers.specs.Fields.{row_at};
 ghost use Rattle.readers.specs.Steps.{operation_at, list_entry_at, row_operation, row_entry};
-ghost use Rattle.readers.specs.Inner.Steps.{OneUleb128, one_operand, two_numbers_row, third_operand};
+ghost use Rattle.readers.specs.Inner.Steps.{one_operand, two_numbers_row, third_operand};
 ghost use Rattle.readers.specs.declared.cursor.Encoding.{Encoding};
 
 use crate::codes::{
@@ -398,13 +398,6 @@ pub fn list_row(version: u16, location: bool, kind: u8) -> u8
     rows.get(kind as usize).copied().unwrap_or(ROW_UNREADABLE)
 }
 
-// Whether a row is one ULEB128 number.
-fn one_uleb128(row: u8) -> bool
-    ensures { result ≡ true → OneUleb128 row }
-{
-    matches!(row, ROW_ULEB128 | ROW_TYPE | ROW_ADDRESS_INDEX)
-}
-
 // An operation of one operand, or of none: the second field has no bytes.
 fn one_operand(row: u8, read: FieldRead) -> OperationRead
     ensures { result ≡ one_operand row read }
@@ -497,32 +490,26 @@ impl Cursor {
         }
         let row = operation_row(s[at]);
         let start = at + 1;
-        if row == ROW_NONE {
-            return one_operand(
-                row,
-                FieldRead::Read(Field {
-                    value: 0,
-                    start,
-                    end: start,
-                }),
-            );
+        let operands = Cursor { at: start };
+        match row {
+            ROW_NONE => {
+                one_operand(
+                    row,
+                    FieldRead::Read(Field {
+                        value: 0,
+                        start,
+                        end: start,
+                    }),
+                )
+            }
+            ROW_SLEB128 => one_operand(row, number_field(start, operands.sleb(s))),
+            ROW_ULEB128 | ROW_TYPE | ROW_ADDRESS_INDEX => {
+                one_operand(row, number_field(start, operands.uleb(s)))
+            }
+            ROW_ADDRESS => one_operand(row, number_field(start, operands.address(s, e))),
+            ROW_EXPRESSION => one_operand(row, operands.exprloc(s)),
+            _ => operation_of(row, operands.row(s, row, e)),
         }
-        if row == ROW_SLEB128 {
-            return one_operand(row, number_field(start, (Cursor { at: start }).sleb(s)));
-        }
-        if one_uleb128(row) {
-            return one_operand(row, number_field(start, (Cursor { at: start }).uleb(s)));
-        }
-        if row == ROW_ADDRESS {
-            return one_operand(
-                row,
-                number_field(start, (Cursor { at: start }).address(s, e)),
-            );
-        }
-        if row == ROW_EXPRESSION {
-            return one_operand(row, (Cursor { at: start }).exprloc(s));
-        }
-        operation_of(row, (Cursor { at: start }).row(s, row, e))
     }
 
     // The entry of a range list, or of a location list, at a place.
