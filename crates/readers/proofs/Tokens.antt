@@ -20,7 +20,7 @@ use Rattle.readers.specs.Tokens.{Use, plain, as', number_as, token_of}
 use Rattle.readers.specs.Operations.{OperandRow as Tokens, rows, unreadable_row, row_of, row_layout}
 use Rattle.readers.specs.Cursors.{cursor, as_leb_number, leb_at, as_fixed, fixed_at, skip_at, as_moved, string_at}
 use Rattle.readers.specs.Fields.{linked_value, size, field_of, as_field, row_of_reads, as_row, token_at, field_at, row_at, block_field, part_of, exprloc_at}
-use Rattle.readers.specs.Inner.Fields.{number_field, bounded_field, number_at}
+use Rattle.readers.specs.Inner.Fields.{number_field, bounded_field, moved_field, number_at}
 use Rattle.readers.specs.declared.cursor.Encoding.{Encoding}
 use Rattle.readers.specs.declared.cursor.Cursor.{Cursor}
 use Rattle.readers.specs.declared.cursor.Number.{Number}
@@ -41,8 +41,6 @@ abbrev pub a_field : ℕ → ℕ → ℕ → Field
 a_field v a b = record { value = v; start = a; end = b }
 
 -- one number more is left out
-pub past : (t a : ℕ) → a < t → (t ≡ suc a → ⊥) → suc a < t
-past t a h n = omega arith
 
 -- ---- a field made of a number or of a move
 
@@ -77,10 +75,6 @@ block-over s v c n e h = rw e (sym (pick_no _ _ _ (no_leb {a = v} {b = length s 
 pub block-unread : (s : List ℕ) (n : Number) → n ≡ Unreadable → NoField ≡ block_field s n
 unfolding block_field
 block-unread s n e = rw e
-
-unfoldable pub moved_field : ℕ → Moved → FieldRead
-moved_field at (To c) = Field' (a_field 0 at c.at)
-moved_field at Nowhere = NoField
 
 pub moved-read : (at : ℕ) (c : Cursor) (m : Moved) → m ≡ To c → Field' (a_field 0 at c.at) ≡ moved_field at m
 unfolding moved_field

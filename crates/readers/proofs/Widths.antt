@@ -21,7 +21,6 @@ use Rattle.readers.proofs.Numbers.{length-ordered}
 use Rattle.readers.specs.Layout.{fixed, width, number_in, string_in}
 use Rattle.readers.specs.Cursors.{cursor, as_fixed, fixed_at, skip_at, as_moved, string_at}
 use Rattle.readers.specs.declared.cursor.Cursor.{Cursor}
-use Rattle.readers.specs.declared.cursor.Number.{Number}
 use Rattle.readers.specs.declared.cursor.Number.TheVariants.{Value, Unreadable}
 use Rattle.readers.specs.declared.cursor.Moved.TheVariants.{To, Unreadable as Nowhere}
 

@@ -1,7 +1,7 @@
 // One token of a layout, read by its number, and rows of up to three of them.
 ghost use Rattle.std.specs.Prelude.{◌≡◌};
 ghost use Rattle.readers.specs.Fields.{block_field, field_at, row_at, exprloc_at, part_of};
-ghost use Rattle.readers.specs.Inner.Fields.{number_field, bounded_field, number_at};
+ghost use Rattle.readers.specs.Inner.Fields.{number_field, bounded_field, moved_field, number_at};
 ghost use Rattle.readers.specs.Cursors.{cursor};
 
 use crate::cursor::{Cursor, Encoding, Moved, Number, left};
@@ -106,6 +106,22 @@ fn bounded_field(at: usize, n: Number) -> FieldRead
     }
 }
 
+// Bytes that are no number, up to the place that they were stepped over to.
+fn moved_field(at: usize, moved: Moved) -> FieldRead
+    ensures { result ≡ moved_field at moved }
+{
+    match moved {
+        Moved::To(next) => {
+            FieldRead::Read(Field {
+                value: 0,
+                start: at,
+                end: next.at,
+            })
+        }
+        Moved::Unreadable => FieldRead::Unreadable,
+    }
+}
+
 // As many bytes as a length says.
 fn block_field(s: &[u8], n: Number) -> FieldRead
     ensures { result ≡ block_field s.now n }
@@ -145,66 +161,26 @@ impl Cursor {
         ensures { result ≡ field_at e s.now self.at token }
     {
         let at = self.at;
-        if token == NO_BYTES {
-            return FieldRead::Read(Field {
-                value: 0,
-                start: at,
-                end: at,
-            });
-        }
-        if token <= ULEB128 {
-            return number_field(at, self.number(s, token, e));
-        }
-        if token == SLEB128 {
-            return number_field(at, self.long_sleb(s));
-        }
-        if token == NULL_TERMINATED {
-            match self.string(s) {
-                Moved::To(next) => {
-                    return FieldRead::Read(Field {
-                        value: 0,
-                        start: at,
-                        end: next.at,
-                    });
-                }
-                Moved::Unreadable => {
-                    return FieldRead::Unreadable;
-                }
+        match token {
+            NO_BYTES => {
+                FieldRead::Read(Field {
+                    value: 0,
+                    start: at,
+                    end: at,
+                })
             }
+            ..=ULEB128 => number_field(at, self.number(s, token, e)),
+            SLEB128 => number_field(at, self.long_sleb(s)),
+            NULL_TERMINATED => moved_field(at, self.string(s)),
+            DATA16 => moved_field(at, self.bytes(s, 16)),
+            BLOCK1 => block_field(s, self.number(s, BYTES1, e)),
+            BLOCK2 => block_field(s, self.number(s, BYTES2, e)),
+            BLOCK4 => block_field(s, self.number(s, BYTES4, e)),
+            BLOCK_ULEB128 => block_field(s, self.long_uleb(s)),
+            EXPRLOC => self.exprloc(s),
+            REGISTER => bounded_field(at, self.uleb(s)),
+            _ => FieldRead::Unreadable,
         }
-        if token == DATA16 {
-            match self.bytes(s, 16) {
-                Moved::To(next) => {
-                    return FieldRead::Read(Field {
-                        value: 0,
-                        start: at,
-                        end: next.at,
-                    });
-                }
-                Moved::Unreadable => {
-                    return FieldRead::Unreadable;
-                }
-            }
-        }
-        if token == BLOCK1 {
-            return block_field(s, self.number(s, BYTES1, e));
-        }
-        if token == BLOCK2 {
-            return block_field(s, self.number(s, BYTES2, e));
-        }
-        if token == BLOCK4 {
-            return block_field(s, self.number(s, BYTES4, e));
-        }
-        if token == BLOCK_ULEB128 {
-            return block_field(s, self.long_uleb(s));
-        }
-        if token == EXPRLOC {
-            return self.exprloc(s);
-        }
-        if token == REGISTER {
-            return bounded_field(at, self.uleb(s));
-        }
-        FieldRead::Unreadable
     }
 
     // A row of tokens by its number.

@@ -1,7 +1,7 @@
 -- `walk_expression` meets its contract: each nested expression is shorter than the one that holds it. Assumes nothing.
 use mathlib.Core.Path.{sym, ◌∙◌}
 use native.Mathlib.Omega.{arith}
-use Rattle.readers.proofs.Walks.{Walking, walking_start, walking-none, within, part-less, walking-entry, entry-fall, walking-own, own-fall, walking-end}
+use Rattle.readers.proofs.Walks.{walking_start, walking-none, within, part-less, walking-entry, entry-fall, walking-own, own-fall, walking-end}
 use Rattle.readers.proofs.OwnReferences.{or-is}
 use Rattle.readers.proofs.expressions.+walk_expression.Goals as goal
 use Rattle.readers.proofs.expressions.+walk_expression.Goals.{then-row-eq-ROW_EXPRESSION, else-row-eq-ROW_EXPRESSION}
@@ -18,9 +18,9 @@ walk_expression-walk-requires t c = (omega (arith, part-less _ _ _ _ _ c.loop-c.
 pub returns-in_default-walk : goal.returns-in_default-walk
 returns-in_default-walk t c =
     elim c.if-row-eq-ROW_EXPRESSION.branch [
-      then-row-eq-ROW_EXPRESSION w ↦
+      | then-row-eq-ROW_EXPRESSION w ↦
           entry-fall _ _ _ _ _ c.loop-c.invariant c.loop-c-test.true _ c.operation.ensures _ c.in-Read.is w.if-row-eq-ROW_EXPRESSION.true _ w.expression.ensures _ w.walk_expression-walk.ensures (sym w.walk-is ∙ c.in_default-walk.is)
-    | else-row-eq-ROW_EXPRESSION w ↦
+      | else-row-eq-ROW_EXPRESSION w ↦
           own-fall _ _ _ _ _ c.loop-c.invariant c.loop-c-test.true _ c.operation.ensures _ c.in-Read.is w.if-row-eq-ROW_EXPRESSION.false _ w.own_walk-walk.ensures (sym w.walk-is ∙ c.in_default-walk.is)
     ]
 
@@ -30,18 +30,18 @@ loop-c-smaller t c = let i = within _ _ _ _ _ c.loop-c.invariant c.loop-c-test.t
 pub loop-c-preserved : goal.loop-c-preserved
 loop-c-preserved t c =
     elim c.if-row-eq-ROW_EXPRESSION.branch [
-      then-row-eq-ROW_EXPRESSION w ↦
+      | then-row-eq-ROW_EXPRESSION w ↦
           walking-entry _ _ _ _ _ c.loop-c.invariant c.loop-c-test.true _ c.operation.ensures _ c.in-Read.is w.if-row-eq-ROW_EXPRESSION.true _ w.expression.ensures _ w.walk_expression-walk.ensures _ _ _ (sym w.walk-is ∙ c.in-Walked.is) (or-is _ _)
-    | else-row-eq-ROW_EXPRESSION w ↦
+      | else-row-eq-ROW_EXPRESSION w ↦
           walking-own _ _ _ _ _ c.loop-c.invariant c.loop-c-test.true _ c.operation.ensures _ c.in-Read.is w.if-row-eq-ROW_EXPRESSION.false _ w.own_walk-walk.ensures _ _ _ (sym w.walk-is ∙ c.in-Walked.is) (or-is _ _)
     ]
 
 pub overflow_add-references : goal.overflow_add-references
 overflow_add-references t c =
     elim c.if-row-eq-ROW_EXPRESSION.branch [
-      then-row-eq-ROW_EXPRESSION w ↦
+      | then-row-eq-ROW_EXPRESSION w ↦
           (let v = walking-entry _ _ _ _ _ c.loop-c.invariant c.loop-c-test.true _ c.operation.ensures _ c.in-Read.is w.if-row-eq-ROW_EXPRESSION.true _ w.expression.ensures _ w.walk_expression-walk.ensures _ _ _ (sym w.walk-is ∙ c.in-Walked.is) (or-is _ _) in omega (arith, v.few, v.inside))
-    | else-row-eq-ROW_EXPRESSION w ↦
+      | else-row-eq-ROW_EXPRESSION w ↦
           (let v = walking-own _ _ _ _ _ c.loop-c.invariant c.loop-c-test.true _ c.operation.ensures _ c.in-Read.is w.if-row-eq-ROW_EXPRESSION.false _ w.own_walk-walk.ensures _ _ _ (sym w.walk-is ∙ c.in-Walked.is) (or-is _ _) in omega (arith, v.few, v.inside))
     ]
 
