@@ -40,10 +40,6 @@ three p zs x y z a b c n h =
     ∙ append_snoc p1 b (c ∷ zs)
     ∙ append_snoc p a (b ∷ c ∷ zs)
 
-nil-of : (rs : List Named) → length rs ≡ 0 → rs ≡ []
-nil-of [] h = refl
-nil-of (r ∷ rs) h = let g : suc (length rs) ≡ 0 = h in absurd (omega arith)
-
 pub record Filling (e : Encoding) (s table₀ : List ℕ) (count : ℕ) (table : List ℕ) (at i : ℕ) : Type 0 where
   pub written : List Named
   pub amount : length written ≡ i
@@ -76,14 +72,6 @@ module _ (e : Encoding) (s table₀ : List ℕ) (count : ℕ) where
         let a : length f.written ≡ i = f.amount in
         let b : length (flat_from e s 0) ≡ count = f.sum in
         omega arith
-
-    -- where count are written, none is left
-    pub fill_done : count ≤ i → table ≡ numbers_of (flat_from e s 0) ++ zeros (length table₀ - 3 * count)
-    fill_done l =
-        let n : i ≡ count = (let k : i ≤ count = f.most in omega arith) in
-        let none_left : flat_from e s at ≡ [] = nil-of (flat_from e s at) (left_over ∙ (let g : count - i ≡ 0 = omega arith in g)) in
-        f.table_is
-        ∙ ap₂ (λ rs m. numbers_of rs ++ zeros (length table₀ - 3 * m)) (sym (append-nil f.written) ∙ ap (λ x. f.written ++ x) (sym none_left) ∙ sym f.whole) n
 
     -- before that there is one more
     pub fill-never : i < count → (y : Yield) → y ≡ next_reference e s at → y ≡ End → ⊥

@@ -102,12 +102,6 @@ partial-none big w s at e h = record {
 }
 
 module _ (big : Bool) (w : ℕ) (s : List ℕ) (at value i : ℕ) (p : Partial big w s at value i) where
-  pub partial-inside : (k : ℕ) → k ≡ place big w at i → i < w → k < length s
-  unfolding place
-  partial-inside k e h =
-      let f : w ≤ length s - at = p.fits in
-      rw e (pick-either (λ k. k < length s) big _ _ (λ _. omega arith) (λ _. omega arith))
-
   pub partial-low : i < w → value < 2 ^ 56
   partial-low h = let q : 256 ^ i ≤ 256 ^ 7 = pow-le-pow_right (omega arith) {i = i} {j = 7} (omega (arith, p.eight)) in omega (arith, p.low)
 
