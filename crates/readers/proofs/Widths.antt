@@ -15,7 +15,7 @@ use mir.Syntax.{w32, w64}
 use Rattle.std.specs.Int.{from_le_bytes, from_be_bytes}
 use mir.Facts.{yes_leb, no_leb, leb_yes, leb_no, yes_eqb, no_eqb}
 use Rattle.readers.specs.Choice.{pick, bind}
-use Rattle.readers.proofs.Choice.{pick_yes, pick_no, check-yes, check-no, All, pick-either, either}
+use Rattle.readers.proofs.Choice.{pick_yes, pick_no, check-yes, check-no, All, either}
 use Rattle.readers.specs.Numbers.{little_value, ordered, fixed_value}
 use Rattle.readers.proofs.Numbers.{length-ordered}
 use Rattle.readers.specs.Layout.{fixed, width, number_in, string_in}

@@ -183,7 +183,8 @@ impl Cursor {
     {
         match self.uleb(s) {
             Number::Value(value, next) => {
-                if next.at - self.at <= 3 && value < 65536 {
+                let width = next.at - self.at;
+                if width <= 3 && value < 65536 {
                     Number::Value(value, next)
                 } else {
                     Number::Unreadable

@@ -3,20 +3,20 @@ use mathlib.Core.Path.{sym, ◌∙◌}
 use native.Mathlib.Omega.{arith}
 use Rattle.readers.proofs.Lebs.{uleb-inside, short-yes, short-long, short-no, short_none}
 use Rattle.readers.proofs.cursor.Cursor.short.Goals as goal
-use Rattle.readers.proofs.cursor.Cursor.short.Goals.{else-next-self-le3-via-then-next-self-le3+else-value-lt65536, else-next-self-le3-via-else-next-self-le3}
+use Rattle.readers.proofs.cursor.Cursor.short.Goals.{else-width-le3-via-then-width-le3+else-value-lt65536, else-width-le3-via-else-width-le3}
 
-pub overflow_sub-next : goal.overflow_sub-next
-overflow_sub-next c = omega (arith, uleb-inside _ _ _ _ (sym c.uleb.ensures ∙ c.in-Value.is))
+pub overflow_sub-width : goal.overflow_sub-width
+overflow_sub-width c = omega (arith, uleb-inside _ _ _ _ (sym c.uleb.ensures ∙ c.in-Value.is))
 
 pub returns-in-Unreadable : goal.returns-in-Unreadable
 returns-in-Unreadable c = short_none _ _ (sym c.uleb.ensures ∙ c.in-Unreadable.is)
 
 pub returns-then-value-lt65536 : goal.returns-then-value-lt65536
-returns-then-value-lt65536 c = short-yes _ _ _ _ (sym c.uleb.ensures ∙ c.in-Value.is) c.if-next-self-le3.true c.if-value-lt65536.true
+returns-then-value-lt65536 c = short-yes _ _ _ _ (sym c.uleb.ensures ∙ c.in-Value.is) c.if-width-le3.true c.if-value-lt65536.true
 
-pub returns-else-next-self-le3 : goal.returns-else-next-self-le3
-returns-else-next-self-le3 c =
-    elim c.else-next-self-le3.branch [
-      | else-next-self-le3-via-then-next-self-le3+else-value-lt65536 w ↦ short-no _ _ _ _ (sym c.uleb.ensures ∙ c.in-Value.is) w.if-value-lt65536.false
-      | else-next-self-le3-via-else-next-self-le3 w ↦ short-long _ _ _ _ (sym c.uleb.ensures ∙ c.in-Value.is) w.if-next-self-le3.false
+pub returns-else-width-le3 : goal.returns-else-width-le3
+returns-else-width-le3 c =
+    elim c.else-width-le3.branch [
+      | else-width-le3-via-then-width-le3+else-value-lt65536 w ↦ short-no _ _ _ _ (sym c.uleb.ensures ∙ c.in-Value.is) w.if-value-lt65536.false
+      | else-width-le3-via-else-width-le3 w ↦ short-long _ _ _ _ (sym c.uleb.ensures ∙ c.in-Value.is) w.if-width-le3.false
     ]
