@@ -81,8 +81,8 @@ static FORMS: [u8; 45] = [
 pub fn form_token(form: u64) -> u8
     ensures { result ≡ form_token form }
 {
-    if form < 45 {
-        let i = form as usize;
+    let i = form as usize;
+    if i < FORMS.len() {
         return FORMS[i];
     }
     if form == DW_FORM_GNU_str_index || form == DW_FORM_GNU_addr_index {

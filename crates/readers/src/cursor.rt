@@ -143,13 +143,11 @@ impl Cursor {
                 next,
             } => {
                 if weight == 0x8000_0000_0000_0000 {
-                    if high == 0 {
-                        return Number::Value(low, next);
-                    }
-                    if high == 127 {
-                        return Number::Value(low + 0x8000_0000_0000_0000, next);
-                    }
-                    return Number::Unreadable;
+                    return match high {
+                        0 => Number::Value(low, next),
+                        127 => Number::Value(low + 0x8000_0000_0000_0000, next),
+                        _ => Number::Unreadable,
+                    };
                 }
                 if low < 64 * weight {
                     return Number::Value(low, next);

@@ -526,13 +526,12 @@ impl Cursor {
         }
         let row = list_row(e.version, location, kind);
         let start = at + 1;
-        if row == ROW_ULEB128_ULEB128 {
-            return (Cursor { at: start }).two_numbers(s, kind, false);
+        let operands = Cursor { at: start };
+        match row {
+            ROW_ULEB128_ULEB128 => operands.two_numbers(s, kind, false),
+            ROW_ULEB128_ULEB128_EXPRESSION => operands.two_numbers(s, kind, true),
+            _ => entry_of(kind, operands.row(s, row, e)),
         }
-        if row == ROW_ULEB128_ULEB128_EXPRESSION {
-            return (Cursor { at: start }).two_numbers(s, kind, true);
-        }
-        entry_of(kind, (Cursor { at: start }).row(s, row, e))
     }
 
     // A list entry whose operands are two ULEB128 numbers, and an expression behind them where there is one.
