@@ -239,9 +239,6 @@ module _ (s : List ℕ) (to code at : ℕ) where
 pub zeros-length : (index : List ℕ) (n : ℕ) → index ≡ zeros n → length index ≡ n
 zeros-length index n e = ap length e ∙ length-replicate n 0
 
-pub zeros-self : (index : List ℕ) (n : ℕ) → index ≡ zeros n → index ≡ zeros (length index)
-zeros-self index n e = e ∙ ap zeros (sym (zeros-length index n e))
-
 -- ---- declarations in a row
 
 turn-declared : (s : List ℕ) (at : ℕ) (r : Option DeclarationStep) → InsideStep s at r → Goes (length s) at (declaration_turn at r)

@@ -11,7 +11,7 @@ use mir.Facts.{yes_leb, no_leb, ltb_no, yes_eqb, no_eqb}
 use Rattle.readers.specs.Choice.{pick, ◌or◌}
 use Rattle.readers.proofs.Choice.{pick_yes, pick_no, pick-either}
 use Rattle.readers.specs.Cursors.{fixed_at}
-use Rattle.readers.specs.Header.{present, right, length_bytes, encoding_of, header_made, fields4, fields5, header_fields, header_in, header_of}
+use Rattle.readers.specs.Header.{present, right, length_bytes, encoding_of, header_made, fields4, fields5, header_fields, header_in, header_of, size_known}
 use Rattle.readers.specs.declared.cursor.Cursor.{Cursor}
 use Rattle.std.specs.Prelude.{Err, None, Ok, Option, Result, Some}
 use Rattle.readers.specs.declared.header.UnitHeader.{UnitHeader}
@@ -90,13 +90,13 @@ module _ (big : Bool) (w : ℕ) (u : List ℕ) (n : ℕ) where
     unfolding at_size
     size_none h = byte-none (n + 1) _ h
 
-    pub size-other : n + 1 < length u → (get_or u (n + 1) 0 ≡ 4 → ⊥) → (get_or u (n + 1) 0 ≡ 8 → ⊥) → at_size t ≡ Err 2
+    pub size-other : n + 1 < length u → size_known (get_or u (n + 1) 0) ≡ false → at_size t ≡ Err 2
     unfolding at_size right
-    size-other h f g = byte_at (n + 1) _ h ∙ pick_no _ _ _ (neither (get_or u (n + 1) 0) 4 8 f g)
+    size-other h f = byte_at (n + 1) _ h ∙ pick_no _ _ _ (subst (λ b. T (not b)) (sym f) tt)
 
-    pub size-known : n + 1 < length u → (get_or u (n + 1) 0 ≡ 4) ⊎ (get_or u (n + 1) 0 ≡ 8) → at_size t ≡ abbreviations_at t (get_or u (n + 1) 0)
+    pub size-known : n + 1 < length u → size_known (get_or u (n + 1) 0) ≡ true → at_size t ≡ abbreviations_at t (get_or u (n + 1) 0)
     unfolding at_size right
-    size-known h f = byte_at (n + 1) _ h ∙ pick_yes _ _ _ (one_of (get_or u (n + 1) 0) 4 8 f)
+    size-known h f = byte_at (n + 1) _ h ∙ pick_yes _ _ _ (subst T (sym f) tt)
 
     module _ (a : ℕ) where
       pub abbreviations-none : fixed_at big w u (n + 2) ≡ None → abbreviations_at t a ≡ Err 1
@@ -136,14 +136,14 @@ module _ (big : Bool) (w : ℕ) (u : List ℕ) (n : ℕ) where
     size4-none h = from-size ∙ byte-none (n + w) _ h
 
     module _ (there : n + w < length u) where
-      pub size4-other : (get_or u (n + w) 0 ≡ 4 → ⊥) → (get_or u (n + w) 0 ≡ 8 → ⊥) → fields4 big w u n ≡ Err 2
+      pub size4-other : size_known (get_or u (n + w) 0) ≡ false → fields4 big w u n ≡ Err 2
       unfolding right
-      size4-other f g = from-size ∙ byte_at (n + w) _ there ∙ pick_no _ _ _ (neither (get_or u (n + w) 0) 4 8 f g)
+      size4-other f = from-size ∙ byte_at (n + w) _ there ∙ pick_no _ _ _ (subst (λ b. T (not b)) (sym f) tt)
 
-      pub size4-known : (get_or u (n + w) 0 ≡ 4) ⊎ (get_or u (n + w) 0 ≡ 8)
+      pub size4-known : size_known (get_or u (n + w) 0) ≡ true
           → fields4 big w u n ≡ header_made (encoding_of big 4 w (get_or u (n + w) 0)) u 1 v (n + w + 1)
       unfolding right
-      size4-known f = from-size ∙ byte_at (n + w) _ there ∙ pick_yes _ _ _ (one_of (get_or u (n + w) 0) 4 8 f)
+      size4-known f = from-size ∙ byte_at (n + w) _ there ∙ pick_yes _ _ _ (subst T (sym f) tt)
 
 -- ---- the version, which stands at n
 

@@ -113,19 +113,23 @@ module _ (s : List ℕ) (at : ℕ) (h : at < length s) (lo : get_or s at 0 < 128
       ∙ ap (λ (v : ℕ). Some (v, cursor (at + 1))) (let e : get_or s at 0 + 2 ^ 64 - 128 ≡ 2 ^ 64 - 128 + get_or s at 0 = omega arith in e))
 
 -- the loop's invariant: k bytes from `from` on are behind
-pub record Reading (s : List ℕ) (from at low weight k : ℕ) : Type 0 where
+pub record Reading (s : List ℕ) (from low weight k : ℕ) : Type 0 where
   pub few : k ≤ 9
-  pub here : at ≡ from + k
   pub power : weight ≡ 128 ^ k
   pub small : low < 128 ^ k
-  pub answer : groups 10 (drop from s) ≡ pending (10 - k) k low (drop at s)
+  pub answer : groups 10 (drop from s) ≡ pending (10 - k) k low (drop (from + k) s)
 
-pub begins : (s : List ℕ) (at : ℕ) → Reading s at at 0 1 0
+pub begins : (s : List ℕ) (at : ℕ) → Reading s at 0 1 0
 unfolding pending
 begins s at =
-    record { few = omega arith; here = omega arith; power = refl; small = omega arith; answer = onto-nothing (groups 10 (drop at s)) }
+    record {
+      few = omega arith;
+      power = refl;
+      small = omega arith;
+      answer = onto-nothing (groups 10 (drop at s)) ∙ ap (λ i. pending 10 0 0 (drop i s)) (let e : at ≡ at + 0 = omega arith in e);
+    }
 
-module _ (s : List ℕ) (from at low weight k : ℕ) (r : Reading s from at low weight k) where
+module _ (s : List ℕ) (from low weight k : ℕ) (r : Reading s from low weight k) where
   -- one more group has room
   pub room : k < 9 → (b : ℕ) → b < 128 → low + b * weight < 2 ^ 63
   room h b hb =
@@ -135,64 +139,67 @@ module _ (s : List ℕ) (from at low weight k : ℕ) (r : Reading s from at low 
       let p : b * weight ≤ 127 * weight = mul-le-mul_right weight (omega arith) in
       omega arith
 
-  pub more : k < 9 → at < length s → 128 ≤ get_or s at 0 → get_or s at 0 < 256
-      → Reading s from (at + 1) (low + (get_or s at 0 - 128) * weight) (weight * 128) (k + 1)
+  pub more : k < 9 → from + k < length s → 128 ≤ get_or s (from + k) 0 → get_or s (from + k) 0 < 256
+      → Reading s from (low + (get_or s (from + k) 0 - 128) * weight) (weight * 128) (k + 1)
   more hk hi lo up =
+      let b : ℕ = get_or s (from + k) 0 in
       let e : weight ≡ 128 ^ k = r.power in
-      let p : (get_or s at 0 - 128) * weight ≤ 127 * weight = mul-le-mul_right weight (omega arith) in
+      let p : (b - 128) * weight ≤ 127 * weight = mul-le-mul_right weight (omega arith) in
       let j : 10 - k ≡ suc (10 - (k + 1)) = omega arith in
       let q : 128 ^ (k + 1) ≡ 128 ^ k * 128 = ap (λ x. 128 ^ x) (add-one k) ∙ pow-suc 128 k in
       record {
         few = omega arith;
-        here = omega arith;
         power = omega arith;
         small = omega arith;
-        answer = r.answer ∙ ap (λ x. pending x k low (drop at s)) j ∙ turn s at (10 - (k + 1)) k low hi lo
-            ∙ ap (λ x. pending (10 - (k + 1)) (k + 1) (low + (get_or s at 0 - 128) * x) (drop (at + 1) s)) (sym e);
+        answer = r.answer ∙ ap (λ x. pending x k low (drop (from + k) s)) j ∙ turn s (from + k) (10 - (k + 1)) k low hi lo
+            ∙ ap (λ x. pending (10 - (k + 1)) (k + 1) (low + (b - 128) * x) (drop (from + k + 1) s)) (sym e)
+            ∙ ap (λ i. pending (10 - (k + 1)) (k + 1) (low + (b - 128) * weight) (drop i s)) (let a : from + k + 1 ≡ from + (k + 1) = omega arith in a);
       }
 
-  pub ends-short : length s ≤ at → None ≡ groups_at s from
+  pub ends-short : length s ≤ from + k → None ≡ groups_at s from
   unfolding groups_at as_groups
-  ends-short h = sym (ap (as_groups from) (r.answer ∙ stops s at (10 - k) k low h))
+  ends-short h = sym (ap (as_groups from) (r.answer ∙ stops s (from + k) (10 - k) k low h))
 
-  found : at < length s → get_or s at 0 < 128 → groups 10 (drop from s) ≡ Some (k, low + get_or s at 0 * weight, drop (at + 1) s)
+  found : from + k < length s → get_or s (from + k) 0 < 128
+      → groups 10 (drop from s) ≡ Some (k, low + get_or s (from + k) 0 * weight, drop (from + k + 1) s)
   found hi lo =
       let j : 10 - k ≡ suc (9 - k) = (let f : k ≤ 9 = r.few in omega arith) in
-      r.answer ∙ ap (λ x. pending x k low (drop at s)) j ∙ last s at (9 - k) k low hi lo
-      ∙ ap (λ (x : ℕ). Some (k, low + get_or s at 0 * x, drop (at + 1) s)) (sym r.power)
+      r.answer ∙ ap (λ x. pending x k low (drop (from + k) s)) j ∙ last s (from + k) (9 - k) k low hi lo
+      ∙ ap (λ (x : ℕ). Some (k, low + get_or s (from + k) 0 * x, drop (from + k + 1) s)) (sym r.power)
 
   -- what was found, in its two parts
-  split : (h l : ℕ) → at < length s → get_or s at 0 < 128 → low + get_or s at 0 * weight ≡ l + h * 2 ^ 63 → l < 2 ^ 63
-      → whole_groups l h weight (cursor (at + 1)) ≡ groups_at s from
+  split : (h l : ℕ) → from + k < length s → get_or s (from + k) 0 < 128 → low + get_or s (from + k) 0 * weight ≡ l + h * 2 ^ 63 → l < 2 ^ 63
+      → whole_groups l h weight (cursor (from + k + 1)) ≡ groups_at s from
   unfolding groups_at as_groups
   split h l hi lo e hl =
-      let v : ℕ = low + get_or s at 0 * weight in
+      let v : ℕ = low + get_or s (from + k) 0 * weight in
       let e1 : l ≡ v % 2 ^ 63 = omega arith in
       let e2 : h ≡ v / 2 ^ 63 = omega arith in
-      let e3 : at + 1 ≡ from + suc k = (let f : at ≡ from + k = r.here in omega arith) in
-      ap (λ x. whole_groups x h weight (cursor (at + 1))) e1
-      ∙ ap (λ x. whole_groups (v % 2 ^ 63) x weight (cursor (at + 1))) e2
-      ∙ ap (λ x. whole_groups (v % 2 ^ 63) (v / 2 ^ 63) x (cursor (at + 1))) r.power
+      let e3 : from + k + 1 ≡ from + suc k = omega arith in
+      ap (λ x. whole_groups x h weight (cursor (from + k + 1))) e1
+      ∙ ap (λ x. whole_groups (v % 2 ^ 63) x weight (cursor (from + k + 1))) e2
+      ∙ ap (λ x. whole_groups (v % 2 ^ 63) (v / 2 ^ 63) x (cursor (from + k + 1))) r.power
       ∙ ap (λ x. whole_groups (v % 2 ^ 63) (v / 2 ^ 63) (128 ^ k) (cursor x)) e3
       ∙ sym (ap (as_groups from) (found hi lo))
 
-  pub ends-well : k < 9 → at < length s → get_or s at 0 < 128 → whole_groups (low + get_or s at 0 * weight) 0 weight (cursor (at + 1)) ≡ groups_at s from
-  ends-well hk hi lo = split 0 (low + get_or s at 0 * weight) hi lo (omega arith) (room hk (get_or s at 0) lo)
+  pub ends-well : k < 9 → from + k < length s → get_or s (from + k) 0 < 128
+      → whole_groups (low + get_or s (from + k) 0 * weight) 0 weight (cursor (from + k + 1)) ≡ groups_at s from
+  ends-well hk hi lo = split 0 (low + get_or s (from + k) 0 * weight) hi lo (omega arith) (room hk (get_or s (from + k) 0) lo)
 
-  pub ends-tenth : 9 ≤ k → at < length s → get_or s at 0 < 128 → whole_groups low (get_or s at 0) weight (cursor (at + 1)) ≡ groups_at s from
-  ends-tenth hk hi lo =
-      let f : k ≤ 9 = r.few in
-      let n : k ≡ 9 = omega arith in
-      let w : weight ≡ 2 ^ 63 = r.power ∙ ap (λ x. 128 ^ x) n in
-      let m : low < 2 ^ 63 = subst (λ x. low < 128 ^ x) n r.small in
-      split (get_or s at 0) low hi lo (ap (λ x. low + get_or s at 0 * x) w) m
+  -- the tenth byte
+  module _ (n : k ≡ 9) where
+    pub ends-tenth : from + 9 < length s → get_or s (from + 9) 0 < 128 → whole_groups low (get_or s (from + 9) 0) weight (cursor (from + 10)) ≡ groups_at s from
+    ends-tenth hi lo =
+        let w : weight ≡ 2 ^ 63 = r.power ∙ ap (λ x. 128 ^ x) n in
+        let m : low < 2 ^ 63 = subst (λ x. low < 128 ^ x) n r.small in
+        let e : get_or s (from + 9) 0 ≡ get_or s (from + k) 0 = ap (λ x. get_or s (from + x) 0) (sym n) in
+        let a : from + 10 ≡ from + k + 1 = omega arith in
+        ap₂ (λ x y. whole_groups low x weight (cursor y)) e a
+        ∙ split (get_or s (from + k) 0) low (omega arith) (omega arith) (ap (λ x. low + get_or s (from + k) 0 * x) w) m
 
-  pub ends-long : 9 ≤ k → at < length s → 128 ≤ get_or s at 0 → None ≡ groups_at s from
-  unfolding groups_at as_groups
-  ends-long hk hi lo =
-      let f : k ≤ 9 = r.few in
-      let n : k ≡ 9 = omega arith in
-      sym (ap (as_groups from) (r.answer ∙ ap (λ x. pending (10 - x) x low (drop at s)) n ∙ tenth s at low hi lo))
+    pub ends-long : from + 9 < length s → 128 ≤ get_or s (from + 9) 0 → None ≡ groups_at s from
+    unfolding groups_at as_groups
+    ends-long hi lo = sym (ap (as_groups from) (r.answer ∙ ap (λ x. pending (10 - x) x low (drop (from + x) s)) n ∙ tenth s (from + 9) low hi lo))
 
 -- ---- what a reader makes of the groups
 
@@ -319,11 +326,6 @@ groups-fewer (suc k) (suc m) h (b ∷ s) =
     ∙ ap (λ o. bind o (fewer (suc k))) (sym (pick_no _ _ _ u)))
     (either (ltb b 128))
 
-pub short_none : (s : List ℕ) (at : ℕ) (r : Option Groups) → r ≡ groups_at s at → r ≡ None → None ≡ leb_at short s at
-unfolding short
-short_none s at r e g =
-    is_none short s at (bind-none within16 (groups-fewer 3 10 (omega arith) (drop at s) ∙ bind-none (fewer 3) (nowhere s at r e g)))
-
 power-back : (n m : ℕ) → 128 ^ n < 128 ^ m → n < m
 power-back n m h =
     ⊎_elim
@@ -366,38 +368,6 @@ module _ (s : List ℕ) (at low high weight : ℕ) (next : Cursor) (f : GroupsFo
   uleb-no h =
       let large : 2 ^ 64 ≤ f.value = omega arith in
       is_none uleb s at (bind-at _ f.read ∙ check-no _ _ (no_ltb {a = f.value} {b = 2 ^ 64} large))
-
-  -- at most three bytes and 16 bits
-
-  pub short-long : 16384 < weight → None ≡ leb_at short s at
-  unfolding short
-  short-long h =
-      let p : weight ≡ 128 ^ f.count = f.power in
-      let n : 2 < f.count = power-back 2 f.count (omega arith) in
-      is_none short s at
-      (bind-none within16 (groups-fewer 3 10 (omega arith) (drop at s) ∙ bind-at (fewer 3) f.read ∙ fewer-no 3 (f.count, f.value, f.rest) (omega arith)))
-
-  three : weight ≤ 16384 → (groups 3 (drop at s) ≡ Some (f.count, f.value, f.rest)) × (f.value ≡ low)
-  three h =
-      let p : weight ≡ 128 ^ f.count = f.power in
-      let n : f.count < 3 = power-back f.count 3 (omega arith) in
-      let n3 : suc f.count ≤ 3 = omega arith in
-      let m : 128 ^ suc f.count ≤ 128 ^ 3 = pow-le-pow_right {n = 128} (omega arith) n3 in
-      let v : f.value < 128 ^ suc f.count = f.fits in
-      (groups-fewer 3 10 (omega arith) (drop at s) ∙ bind-at (fewer 3) f.read ∙ fewer-yes 3 (f.count, f.value, f.rest) n, omega arith)
-
-  pub short-yes : weight ≤ 16384 → low < 65536 → Some (low, next) ≡ leb_at short s at
-  unfolding short within16
-  short-yes h k =
-      let e : f.value ≡ low = (three h).1 in
-      is_some short s at f.count low f.rest next f.past
-      (bind-at _ (three h).0 ∙ check-yes _ _ (yes_ltb {a = f.value} {b = 2 ^ 16} (omega arith)) ∙ ap (λ (x : ℕ). Some (f.count, x, f.rest)) e)
-
-  pub short-no : weight ≤ 16384 → 65536 ≤ low → None ≡ leb_at short s at
-  unfolding short within16
-  short-no h k =
-      let e : f.value ≡ low = (three h).1 in
-      is_none short s at (bind-at _ (three h).0 ∙ check-no _ _ (no_ltb {a = f.value} {b = 2 ^ 16} (omega arith)))
 
   -- signed, in ten bytes
 
@@ -522,6 +492,72 @@ sleb-inside = leb-inside sleb sleb-law
 
 pub short-inside : (s : List ℕ) (at v : ℕ) (next : Cursor) → leb_at short s at ≡ Some (v, next) → (at < next.at) × (next.at ≤ length s)
 short-inside = leb-inside short short-law
+
+-- ---- a number in at most three bytes and 16 bits, by the number in at most ten bytes and 64 bits
+
+uleb-groups : (o : Option Read) (t : Read) → bind o unsigned64 ≡ Some t → o ≡ Some t
+unfolding bind unsigned64
+uleb-groups None t e = let z : ◌≡◌ {A = ℕ} 0 1 = cc in absurd (omega arith)
+uleb-groups (Some u) t e =
+    ⊎_elim
+    (λ y. sym (check-yes _ _ y) ∙ e)
+    (λ y. let n : None ≡ Some t = sym (check-no _ (Some u) y) ∙ e in let z : ◌≡◌ {A = ℕ} 0 1 = cc in absurd (omega arith))
+    (either (ltb u.1 (2 ^ 64)))
+
+within16-over : (t : Read) → 2 ^ 16 ≤ t.1 → within16 t ≡ None
+unfolding within16
+within16-over t h = check-no _ _ (no_ltb {a = t.1} {b = 2 ^ 16} h)
+
+over-either : (t : Read) → 2 ^ 16 ≤ t.1 → bind (fewer 3 t) within16 ≡ None
+over-either t h =
+    ⊎_elim
+    (λ y. bind-at within16 (fewer-yes 3 t (ltb_yes y)) ∙ within16-over t h)
+    (λ y. bind-none within16 (fewer-no 3 t (ltb_no y)))
+    (either (ltb t.0 3))
+
+short-by : (s : List ℕ) → short s ≡ bind (bind (groups 10 s) (fewer 3)) within16
+unfolding short
+short-by s = ap (λ o. bind o within16) (groups-fewer 3 10 (omega arith) s)
+
+-- where that can't be read
+pub short_none : (s : List ℕ) (at : ℕ) → leb_at uleb s at ≡ None → None ≡ leb_at short s at
+unfolding uleb bind unsigned64
+short_none s at g = is_none short s at (short-by (drop at s) ∙ over (groups 10 (drop at s)) (leb-nothing uleb s at g))
+  where
+    over : (o : Option Read) → bind o unsigned64 ≡ None → bind (bind o (fewer 3)) within16 ≡ None
+    over None e = refl
+    over (Some t) e =
+        ⊎_elim
+        (λ y. let n : Some t ≡ None = sym (check-yes _ (Some t) y) ∙ e in let z : ◌≡◌ {A = ℕ} 0 1 = cc in absurd (omega arith))
+        (λ y. let l : 2 ^ 64 ≤ t.1 = ltb_no y in over-either t (omega arith))
+        (either (ltb t.1 (2 ^ 64)))
+
+module _ (s : List ℕ) (at v : ℕ) (next : Cursor) (g : leb_at uleb s at ≡ Some (v, next)) where
+  of_groups : Got uleb s at v next
+  of_groups = leb-got uleb s at v next g
+
+  ten-groups : groups 10 (drop at s) ≡ Some (of_groups.count, v, of_groups.rest)
+  unfolding uleb
+  ten-groups = uleb-groups (groups 10 (drop at s)) _ of_groups.read
+
+  pub short-yes : next.at - at ≤ 3 → v < 65536 → Some (v, next) ≡ leb_at short s at
+  unfolding within16
+  short-yes h k =
+      let p : next.at ≡ at + suc of_groups.count = of_groups.past in
+      is_some short s at of_groups.count v of_groups.rest next (ap cursor p)
+      (short-by (drop at s)
+      ∙ bind-at within16 (bind-at (fewer 3) ten-groups ∙ fewer-yes 3 (of_groups.count, v, of_groups.rest) (omega arith))
+      ∙ check-yes _ _ (yes_ltb {a = v} {b = 2 ^ 16} k))
+
+  pub short-long : 3 < next.at - at → None ≡ leb_at short s at
+  short-long h =
+      let p : next.at ≡ at + suc of_groups.count = of_groups.past in
+      is_none short s at
+      (short-by (drop at s) ∙ bind-none within16 (bind-at (fewer 3) ten-groups ∙ fewer-no 3 (of_groups.count, v, of_groups.rest) (omega arith)))
+
+  pub short-no : 65536 ≤ v → None ≡ leb_at short s at
+  short-no k =
+      is_none short s at (short-by (drop at s) ∙ ap (λ o. bind o within16) (bind-at (fewer 3) ten-groups) ∙ over-either (of_groups.count, v, of_groups.rest) k)
 
 -- ---- the form numbers of DW_FORM_indirect
 

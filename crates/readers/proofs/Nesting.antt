@@ -4,7 +4,7 @@ use Prim.Native.Nat.{ℕ, zero, suc, ◌+◌, ◌-◌, ◌^◌, ◌≤◌, ◌<�
 use mathlib.Core.Bool.{Bool, true, false, not}
 use mathlib.Core.List.{List, [], ◌∷◌}
 use native.Mathlib.Omega.{arith}
-use lib.ListN.{length, get_or, get_or-eq_default}
+use lib.ListN.{length, get_or}
 use lib.Dec.{T}
 use mir.Facts.{yes_ltb, no_ltb, yes_eqb, no_eqb}
 use Rattle.readers.proofs.Choice.{pick_yes, pick_no}
@@ -12,7 +12,7 @@ use Rattle.readers.specs.Nesting.{no_parent, opened, closed, top, nesting_of, ne
 use Rattle.readers.specs.declared.entries.Nesting.{Nesting}
 use Rattle.readers.specs.Inner.Nesting.{Chain}
 
-abbrev nesting : ℕ → ℕ → Nesting
+abbrev pub nesting : ℕ → ℕ → Nesting
 nesting depth parent = record { depth = depth; parent = record { 0 = parent } }
 
 pub opens : (children : Bool) (k : ℕ) (n : Nesting) → children ≡ true → n.depth < 18446744073709551615 → nesting (n.depth + 1) k ≡ nesting_opened children k n
@@ -36,18 +36,10 @@ pub closes : (parents : List ℕ) (n : Nesting) → (n.depth ≡ 0 → ⊥)
 unfolding nesting_closed
 closes parents n h = sym (pick_no _ _ _ (no_eqb {a = n.depth} {b = 0} h))
 
-get_d_any : (l : List ℕ) (i a b : ℕ) → i < length l → get_or l i a ≡ get_or l i b
+pub get_d_any : (l : List ℕ) (i a b : ℕ) → i < length l → get_or l i a ≡ get_or l i b
 get_d_any [] i a b h = absurd (omega arith)
 get_d_any (x ∷ l) zero a b h = refl
 get_d_any (x ∷ l) (suc i) a b h = get_d_any l i a b (omega arith)
-
-pub closes-known : (parents : List ℕ) (n : Nesting) → (n.depth ≡ 0 → ⊥) → n.parent.0 < length parents
-    → nesting (n.depth - 1) (get_or parents n.parent.0 0) ≡ nesting_closed parents n
-closes-known parents n h l = ap (nesting (n.depth - 1)) (get_d_any parents n.parent.0 0 no_parent l) ∙ closes parents n h
-
-pub closes-unknown : (parents : List ℕ) (n : Nesting) → (n.depth ≡ 0 → ⊥) → length parents ≤ n.parent.0
-    → nesting (n.depth - 1) no_parent ≡ nesting_closed parents n
-closes-unknown parents n h l = ap (nesting (n.depth - 1)) (sym (get_or-eq_default parents no_parent l)) ∙ closes parents n h
 
 -- ---- by the definition
 

@@ -1,7 +1,7 @@
 -- What an operation names by itself, return by return (specs/References.antt: named_type, reference_of, own_walk).
-use mathlib.Core.Path.{◌≡◌, ap, sym, ◌∙◌}
+use mathlib.Core.Path.{◌≡◌, refl, ap, sym, ◌∙◌}
 use Prim.Native.Nat.{ℕ, ◌-◌, ◌≤◌, ◌<◌}
-use mathlib.Core.Bool.{Bool, true, false, not}
+use mathlib.Core.Bool.{Bool, true, false, not, ◌||◌}
 use lib.Dec.{T, leb, ltb, eqb}
 use mir.Facts.{yes_ltb, no_ltb, yes_leb, no_leb, yes_eqb, no_eqb}
 use Rattle.readers.specs.Choice.{◌or◌}
@@ -14,13 +14,10 @@ use Rattle.readers.specs.declared.operations.Operation.{Operation}
 use Rattle.std.specs.Prelude.{None, Option, Some}
 use Rattle.readers.specs.declared.expressions.Reference.{Reference}
 
-pub or_yes : (a b : Bool) → a ≡ true → true ≡ (a or b)
+pub or-is : (a b : Bool) → (a || b) ≡ (a or b)
 unfolding ◌or◌
-or_yes a b q = ap (λ x. x or b) (sym q)
-
-pub or_no : (a b : Bool) → a ≡ false → b ≡ (a or b)
-unfolding ◌or◌
-or_no a b q = ap (λ x. x or b) (sym q)
+or-is true b = refl
+or-is false b = refl
 
 pub left : (a b : Bool) → T a → T (a or b)
 unfolding ◌or◌

@@ -1,11 +1,10 @@
 -- Tables of numbers: cleared, and filled with references.
-use mathlib.Core.Path.{◌≡◌, refl, ap, ap₂, sym, ◌∙◌}
-use Prim.Native.Nat.{ℕ, zero, suc, ◌+◌, ◌*◌, ◌-◌, ◌≤◌, ◌<◌}
-use mathlib.Core.List.{List, [], ◌∷◌, ◌++◌, append_assoc, append-nil}
+use mathlib.Core.Path.{◌≡◌, refl, ap, sym, ◌∙◌}
+use Prim.Native.Nat.{ℕ, suc, ◌+◌, ◌*◌, ◌-◌, ◌≤◌, ◌<◌}
+use mathlib.Core.List.{List, [], ◌∷◌, ◌++◌, append_assoc}
 use native.Mathlib.Omega.{arith}
-use native.Mathlib.Numerals.{add-one}
-use lib.ListN.{length, take, set, length-append, length-set}
-use lib.Seq.{take-suc-set, take-length, set_at, append_snoc}
+use lib.ListN.{length, set, length-append, length-set}
+use lib.Seq.{set_at, append_snoc}
 use Rattle.readers.specs.Choice.{zeros}
 use Rattle.readers.specs.Layout.{width}
 use Rattle.readers.specs.References.{Named, encoded_by, numbers_of, flat_from, next_reference}
@@ -14,33 +13,6 @@ use Rattle.readers.specs.declared.cursor.Encoding.{Encoding}
 use Rattle.readers.specs.declared.expressions.Reference.{Reference}
 use Rattle.std.specs.Prelude.{None, Option, Some}
 use Rattle.readers.proofs.Yields.{flat_by, flat-next, next-wide}
-
--- ---- clearing
-
-pub record Clearing (table₀ table : List ℕ) (i : ℕ) : Type 0 where
-  pub size : length table ≡ length table₀
-  pub inside : i ≤ length table
-  pub done : take i table ≡ zeros i
-
-zeros-more : (i : ℕ) → zeros i ++ (0 ∷ []) ≡ zeros (suc i)
-zeros-more zero = refl
-zeros-more (suc i) = ap (λ (l : List ℕ). 0 ∷ l) (zeros-more i)
-
-pub clear-start : (table : List ℕ) → Clearing table table 0
-clear-start table = record { size = refl; inside = omega arith; done = refl }
-
-pub clear-more : (table₀ table : List ℕ) (i : ℕ) → i < length table → Clearing table₀ table i → Clearing table₀ (set table i 0) (i + 1)
-clear-more table₀ table i l h =
-    record {
-      size = length-set table i 0 ∙ h.size;
-      inside = omega (arith, length-set table i 0);
-      done = ap (λ n. take n (set table i 0)) (add-one i) ∙ take-suc-set table i 0 l ∙ ap (λ x. x ++ (0 ∷ [])) h.done ∙ zeros-more i ∙ ap zeros (sym (add-one i));
-    }
-
-pub clear-done : (table₀ table : List ℕ) (i : ℕ) → length table ≤ i → Clearing table₀ table i → table ≡ zeros (length table₀)
-clear-done table₀ table i l h =
-    let n : i ≡ length table = (let k : i ≤ length table = h.inside in omega arith) in
-    sym (take-length table) ∙ ap (λ m. take m table) (sym n) ∙ h.done ∙ ap zeros (n ∙ h.size)
 
 -- ---- filling: the references that are written, and those from here on
 
@@ -66,10 +38,6 @@ three p zs x y z a b c n h =
     ∙ set_at p2 z zs c (n + 2) l2
     ∙ append_snoc p1 b (c ∷ zs)
     ∙ append_snoc p a (b ∷ c ∷ zs)
-
-nil-of : (rs : List Named) → length rs ≡ 0 → rs ≡ []
-nil-of [] h = refl
-nil-of (r ∷ rs) h = let g : suc (length rs) ≡ 0 = h in absurd (omega arith)
 
 pub record Filling (e : Encoding) (s table₀ : List ℕ) (count : ℕ) (table : List ℕ) (at i : ℕ) : Type 0 where
   pub written : List Named
@@ -103,14 +71,6 @@ module _ (e : Encoding) (s table₀ : List ℕ) (count : ℕ) where
         let a : length f.written ≡ i = f.amount in
         let b : length (flat_from e s 0) ≡ count = f.sum in
         omega arith
-
-    -- where count are written, none is left
-    pub fill_done : count ≤ i → table ≡ numbers_of (flat_from e s 0) ++ zeros (length table₀ - 3 * count)
-    fill_done l =
-        let n : i ≡ count = (let k : i ≤ count = f.most in omega arith) in
-        let none_left : flat_from e s at ≡ [] = nil-of (flat_from e s at) (left_over ∙ (let g : count - i ≡ 0 = omega arith in g)) in
-        f.table_is
-        ∙ ap₂ (λ rs m. numbers_of rs ++ zeros (length table₀ - 3 * m)) (sym (append-nil f.written) ∙ ap (λ x. f.written ++ x) (sym none_left) ∙ sym f.whole) n
 
     -- before that there is one more
     pub fill-never : i < count → (y : Option Reference) → y ≡ next_reference e s at → y ≡ None → ⊥

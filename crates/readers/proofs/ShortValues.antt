@@ -15,14 +15,14 @@ use Rattle.readers.specs.Forms.{form_token, form_tokens, token_among, in_version
 use Rattle.readers.specs.Cursors.{cursor, leb_at, fixed_at, skip_at, string_at}
 use Rattle.readers.specs.Fields.{token_at, field_at, exprloc_at}
 use Rattle.readers.specs.Entries.{attribute_at, attribute_end}
-use Rattle.readers.specs.Inner.Fields.{number_field, number_at}
+use Rattle.readers.specs.Inner.Fields.{number_field, moved_field, number_at}
 use Rattle.readers.specs.Inner.Values.{attribute_of, field_end, number_end, width_of}
 use Rattle.readers.specs.declared.cursor.Encoding.{Encoding}
 use Rattle.readers.specs.declared.cursor.Cursor.{Cursor}
 use Rattle.std.specs.Prelude.{None, Option, Some}
 use Rattle.readers.specs.declared.attributes.Attribute.{Attribute}
 use Rattle.readers.specs.declared.fields.Field.{Field}
-use Rattle.readers.proofs.Tokens.{a_field, moved_field, field-nothing, field-number, field-signed, field-string, field-exprloc, number-fixed, number-address, number-offset, number-leb}
+use Rattle.readers.proofs.Tokens.{a_field, field-nothing, field-number, field-signed, field-string, field-exprloc, number-fixed, number-address, number-offset, number-leb}
 use Rattle.readers.proofs.Widths.{fixed-is, fixed-short, fixed-over, skip-to, skip-over}
 use Rattle.readers.proofs.Values.{valued, value-sibling, value-other, in-every, attribute-direct, direct-none}
 

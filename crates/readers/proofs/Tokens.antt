@@ -1,6 +1,6 @@
 -- Tokens and rows from a place of a slice on: what each reads, in the terms of the cursor's methods; that it reads the same whatever it is used as;
 -- a row as three fields, one after the other; and how far each comes.
-use Prim.Native.Nat.{ℕ, suc, ◌+◌, ◌-◌, ◌≤◌, ◌<◌}
+use Prim.Native.Nat.{ℕ, suc, ◌+◌, ◌-◌, ◌≤◌, ◌<◌, min}
 use mathlib.Core.Path.{◌≡◌, refl, ap, ap₂, sym, ◌∙◌, subst}
 use mathlib.Core.Logic.{⊎_elim}
 use mathlib.Core.Bool.{Bool, true, false, not}
@@ -9,8 +9,8 @@ use mathlib.Core.List.{List, [], ◌∷◌, ◌++◌, append-nil}
 use native.Mathlib.Omega.{arith}
 use lib.ListN.{length, take, drop, length-append, length-drop, drop_of_length-le, get_or-eq_default}
 use lib.Seq.{length-take-le, drop-drop, take-nil, take_all}
-use lib.Dec.{T, leb, eqb}
-use mir.Facts.{yes_leb, no_leb, leb_yes, leb_no, no_eqb, eqb_yes, eqb_no}
+use lib.Dec.{T, leb, ltb, eqb}
+use mir.Facts.{yes_leb, no_leb, leb_yes, leb_no, ltb_yes, ltb_no, no_eqb, eqb_yes, eqb_no}
 use Rattle.readers.specs.Choice.{pick, check, bind}
 use Rattle.readers.proofs.Choice.{pick_yes, pick_no, either, All, all-some, all_none, all-check, all-bind, all-triv, Took, took-length}
 use Rattle.readers.specs.Numbers.{Groups, uleb, sleb}
@@ -20,7 +20,7 @@ use Rattle.readers.specs.Tokens.{Use, plain, as', number_as, token_of}
 use Rattle.readers.specs.Operations.{OperandRow as Tokens, rows, unreadable_row, row_of, row_layout}
 use Rattle.readers.specs.Cursors.{cursor, as_leb_number, leb_at, as_fixed, fixed_at, skip_at, as_moved, string_at}
 use Rattle.readers.specs.Fields.{linked_value, size, field_of, as_field, row_of_reads, as_row, token_at, field_at, row_at, block_field, part_of, exprloc_at}
-use Rattle.readers.specs.Inner.Fields.{number_field, bounded_field, number_at}
+use Rattle.readers.specs.Inner.Fields.{number_field, bounded_field, moved_field, number_at}
 use Rattle.readers.specs.declared.cursor.Encoding.{Encoding}
 use Rattle.readers.specs.declared.cursor.Cursor.{Cursor}
 use Rattle.readers.specs.declared.fields.Field.{Field}
@@ -33,8 +33,6 @@ abbrev pub a_field : ℕ → ℕ → ℕ → Field
 a_field v a b = record { value = v; start = a; end = b }
 
 -- one number more is left out
-pub past : (t a : ℕ) → a < t → (t ≡ suc a → ⊥) → suc a < t
-past t a h n = omega arith
 
 -- ---- a field made of a number or of a move
 
@@ -69,10 +67,6 @@ block-over s v c n e h = rw e (sym (pick_no _ _ _ (no_leb {a = v} {b = length s 
 pub block-unread : (s : List ℕ) (n : Option (ℕ × Cursor)) → n ≡ None → None ≡ block_field s n
 unfolding block_field
 block-unread s n e = rw e
-
-unfoldable pub moved_field : ℕ → Option Cursor → Option Field
-moved_field at (Some c) = Some (a_field 0 at c.at)
-moved_field at None = None
 
 pub moved-read : (at : ℕ) (c : Cursor) (m : Option Cursor) → m ≡ Some c → Some (a_field 0 at c.at) ≡ moved_field at m
 unfolding moved_field
@@ -554,6 +548,24 @@ module _ (s : List ℕ) (f : Field) where
   pub part-whole : take (f.end - f.start) (drop f.start s) ≡ part_of s f
   unfolding part_of
   part-whole = refl
+
+  -- from the least of the start and the end on, where neither is past the slice
+  pub part-cut : (start end : ℕ) → start ≡ min f.start end → end ≡ min f.end (length s) → take (end - start) (drop start s) ≡ part_of s f
+  part-cut start end p q =
+      ⊎_elim
+      (λ t.
+      let h : f.start < end = ltb_yes t in
+      let a : start ≡ f.start = omega arith in
+      ap (λ k. take (end - start) (drop k s)) a
+      ∙ ⊎_elim
+      (λ u. let l : f.end ≤ length s = leb_yes u in ap (λ n. take n (drop f.start s)) (let e : end - start ≡ f.end - f.start = omega arith in e) ∙ part-whole)
+      (λ u. let l : length s < f.end = leb_no u in ap (λ n. take n (drop f.start s)) (let e : end - start ≡ length s - f.start = omega arith in e) ∙ part-rest l)
+      (either (leb f.end (length s))))
+      (λ t.
+      let h : end ≤ f.start = ltb_no t in
+      ap (λ n. take n (drop start s)) (let e : end - start ≡ 0 = omega arith in e)
+      ∙ ⊎_elim (λ u. part_none (leb_yes u)) (λ u. let l : f.start < f.end = leb_no u in part-past (omega arith)) (either (leb f.end f.start)))
+      (either (ltb f.start end))
 
 -- ---- a row, field by field, as it is read
 

@@ -12,9 +12,11 @@ use native.Mathlib.Omega.{arith}
 use lib.ListN.{length, get_or, take, drop, length-drop, length-reverse, get_or-append, drop_of_length-le}
 use lib.Seq.{drop-cons, get_or_at, get_or-take, get_or-drop, length-take-le}
 use lib.Dec.{leb}
+use mir.Syntax.{w32, w64}
+use Rattle.std.specs.Int.{from_le_bytes, from_be_bytes}
 use mir.Facts.{yes_leb, no_leb, leb_yes, leb_no, yes_eqb, no_eqb}
 use Rattle.readers.specs.Choice.{pick, bind}
-use Rattle.readers.proofs.Choice.{pick_yes, pick_no, check-yes, check-no, All, pick-either, either}
+use Rattle.readers.proofs.Choice.{pick_yes, pick_no, check-yes, check-no, All, either}
 use Rattle.readers.specs.Numbers.{little_value, ordered, fixed_value}
 use Rattle.readers.proofs.Numbers.{length-ordered}
 use Rattle.readers.specs.Layout.{fixed, width, number_in, string_in}
@@ -99,12 +101,6 @@ partial-none big w s at e h = record {
 }
 
 module _ (big : Bool) (w : ℕ) (s : List ℕ) (at value i : ℕ) (p : Partial big w s at value i) where
-  pub partial-inside : (k : ℕ) → k ≡ place big w at i → i < w → k < length s
-  unfolding place
-  partial-inside k e h =
-      let f : w ≤ length s - at = p.fits in
-      rw e (pick-either (λ k. k < length s) big _ _ (λ _. omega arith) (λ _. omega arith))
-
   pub partial-low : i < w → value < 2 ^ 56
   partial-low h = let q : 256 ^ i ≤ 256 ^ 7 = pow-le-pow_right (omega arith) {i = i} {j = 7} (omega (arith, p.eight)) in omega (arith, p.low)
 
@@ -179,82 +175,69 @@ four-there s at h =
     (at' 1 (omega arith) ∙ ap (λ (t : List ℕ). get_or s (at + 1) 0 ∷ t) (at' 2 (omega arith) ∙ ap (λ (t : List ℕ). get_or s (at + 2) 0 ∷ t) (at' 3 (omega arith))))
 
 -- what four bytes come to, and eight
-four-value : (a b c d : ℕ) → little_value (a ∷ b ∷ c ∷ d ∷ []) ≡ a + 256 * (b + 256 * (c + 256 * d))
+value-four : (a b c d : ℕ) → from_le_bytes w32 (a ∷ b ∷ c ∷ d ∷ []) ≡ little_value (a ∷ b ∷ c ∷ d ∷ [])
 unfolding little_value
-four-value a b c d = omega arith
+value-four a b c d = omega arith
 
-eight-value : (a b c d e f g h : ℕ) → little_value (a ∷ b ∷ c ∷ d ∷ e ∷ f ∷ g ∷ h ∷ []) ≡ a + 256 * (b + 256 * (c + 256 * d)) + 4294967296 * (e + 256 * (f + 256 * (g + 256 * h)))
+turned-four : (a b c d : ℕ) → from_be_bytes w32 (a ∷ b ∷ c ∷ d ∷ []) ≡ little_value (d ∷ c ∷ b ∷ a ∷ [])
 unfolding little_value
-eight-value a b c d e f g h = omega arith
+turned-four a b c d = omega arith
 
-two-fours : (a b c d e f g i : ℕ) (l m rest : List ℕ) → l ≡ a ∷ b ∷ c ∷ d ∷ m → m ≡ e ∷ f ∷ g ∷ i ∷ rest
-    → (fixed_value true (take 4 m) + 4294967296 * fixed_value true (take 4 l) ≡ fixed_value true (take 8 l))
-    × (fixed_value false (take 4 l) + 4294967296 * fixed_value false (take 4 m) ≡ fixed_value false (take 8 l))
-unfolding fixed_value ordered
-two-fours a b c d e f g i l m rest p q = rw (p, q) (
-  ap₂ (λ (x y : ℕ). x + 4294967296 * y) (four-value i g f e) (four-value d c b a) ∙ sym (eight-value i g f e d c b a),
-  ap₂ (λ (x y : ℕ). x + 4294967296 * y) (four-value a b c d) (four-value e f g i) ∙ sym (eight-value a b c d e f g i),
-)
+value-eight : (a b c d e f g h : ℕ) → from_le_bytes w64 (a ∷ b ∷ c ∷ d ∷ e ∷ f ∷ g ∷ h ∷ []) ≡ little_value (a ∷ b ∷ c ∷ d ∷ e ∷ f ∷ g ∷ h ∷ [])
+unfolding little_value
+value-eight a b c d e f g h = omega arith
+
+turned-eight : (a b c d e f g h : ℕ) → from_be_bytes w64 (a ∷ b ∷ c ∷ d ∷ e ∷ f ∷ g ∷ h ∷ []) ≡ little_value (h ∷ g ∷ f ∷ e ∷ d ∷ c ∷ b ∷ a ∷ [])
+unfolding little_value
+turned-eight a b c d e f g h = omega arith
 
 module _ (s : List ℕ) (at : ℕ) where
   abbrev here : ℕ → ℕ
   here k = get_or s (at + k) 0
 
-  -- four bytes of which the lowest comes first, or last
-  module _ (h : at + 4 ≤ length s) (v : ℕ) (big : Bool) where
-    abbrev four_of : Bool → ℕ
-    four_of b = fixed_value b (take 4 (drop at s))
+  -- a number of w bytes by what they come to
+  fixed-of : (big : Bool) (w : ℕ) → w ≤ 8 → w ≤ length s - at → (l : List ℕ) → drop at s ≡ l → (v : ℕ) → v ≡ fixed_value big (take w l)
+      → Some (v, cursor (at + w)) ≡ fixed_at big w s at
+  fixed-of big w m h l e v q = ap (λ v. Some (v, cursor (at + w))) (q ∙ ap (λ t. fixed_value big (take w t)) (sym e)) ∙ sym (fixed-is big w s at m h)
 
-    pub four-little : v ≡ get_or s at 0 + 256 * (here 1 + 256 * (here 2 + 256 * here 3)) → big ≡ false → v ≡ four_of big
+  module _ (h : 4 ≤ length s - at) (v : ℕ) where
+    abbrev four : List ℕ
+    four = get_or s at 0 ∷ here 1 ∷ here 2 ∷ here 3 ∷ []
+
+    pub four-little : (big : Bool) → big ≡ false → v ≡ from_le_bytes w32 four → Some (v, cursor (at + 4)) ≡ fixed_at big 4 s at
     unfolding fixed_value ordered
-    four-little q b =
-        q
-        ∙ sym (four-value (get_or s at 0) (here 1) (here 2) (here 3))
-        ∙ sym (ap (λ (l : List ℕ). fixed_value false (take 4 l)) (four-there s at h))
-        ∙ ap four_of (sym b)
+    four-little big b q =
+        subst (λ x. Some (v, cursor (at + 4)) ≡ fixed_at x 4 s at) (sym b)
+        (fixed-of false 4 (omega arith) h _ (four-there s at (omega arith)) v (q ∙ value-four _ _ _ _))
 
-    pub four-big : v ≡ here 3 + 256 * (here 2 + 256 * (here 1 + 256 * get_or s at 0)) → big ≡ true → v ≡ four_of big
+    pub four-big : (big : Bool) → big ≡ true → v ≡ from_be_bytes w32 four → Some (v, cursor (at + 4)) ≡ fixed_at big 4 s at
     unfolding fixed_value ordered
-    four-big q b =
-        q
-        ∙ sym (four-value (here 3) (here 2) (here 1) (get_or s at 0))
-        ∙ sym (ap (λ (l : List ℕ). fixed_value true (take 4 l)) (four-there s at h))
-        ∙ ap four_of (sym b)
+    four-big big b q =
+        subst (λ x. Some (v, cursor (at + 4)) ≡ fixed_at x 4 s at) (sym b)
+        (fixed-of true 4 (omega arith) h _ (four-there s at (omega arith)) v (q ∙ turned-four _ _ _ _))
 
-  pub four_is : (big : Bool) → 4 ≤ length s - at → (v : ℕ) → v ≡ fixed_value big (take 4 (drop at s))
-      → Some (v, cursor (at + 4)) ≡ fixed_at big 4 s at
-  four_is big h v q = ap (λ (v : ℕ). Some (v, cursor (at + 4))) q ∙ sym (fixed-is big 4 s at (omega arith) h)
+  module _ (h : 8 ≤ length s - at) (v : ℕ) where
+    abbrev eight : List ℕ
+    eight = get_or s at 0 ∷ here 1 ∷ here 2 ∷ here 3 ∷ here 4 ∷ here 5 ∷ here 6 ∷ here 7 ∷ []
 
-  -- eight, by the four first and the four last
-  module _ (h : 8 ≤ length s - at) (big : Bool) (first last : ℕ)
-      (p : first ≡ fixed_value big (take 4 (drop at s))) (q : last ≡ fixed_value big (take 4 (drop (at + 4) s))) where
-    parts :
-        (fixed_value true (take 4 (drop (at + 4) s)) + 4294967296 * fixed_value true (take 4 (drop at s)) ≡ fixed_value true (take 8 (drop at s)))
-        × (fixed_value false (take 4 (drop at s)) + 4294967296 * fixed_value false (take 4 (drop (at + 4) s)) ≡ fixed_value false (take 8 (drop at s)))
-    parts = two-fours _ _ _ _ _ _ _ _ (drop at s) (drop (at + 4) s) _ (four-there s at (omega arith)) (four-there s (at + 4) (omega arith))
+    eight-there : drop at s ≡ get_or s at 0 ∷ here 1 ∷ here 2 ∷ here 3 ∷ here 4 ∷ here 5 ∷ here 6 ∷ here 7 ∷ drop (at + 8) s
+    eight-there =
+        let past : (k : ℕ) → at + 4 + k ≡ at + (4 + k) = (λ k. omega arith) in
+        four-there s at (omega arith)
+        ∙ ap (λ (t : List ℕ). get_or s at 0 ∷ here 1 ∷ here 2 ∷ here 3 ∷ t)
+        (four-there s (at + 4) (omega arith) ∙ rw (past 1, past 2, past 3, past 4) refl)
 
-    eight_is : (v : ℕ) → v ≡ fixed_value big (take 8 (drop at s)) → Some (v, cursor (at + 8)) ≡ fixed_at big 8 s at
-    eight_is v e = ap (λ (v : ℕ). Some (v, cursor (at + 8))) e ∙ sym (fixed-is big 8 s at (omega arith) h)
+    pub eight-little : (big : Bool) → big ≡ false → v ≡ from_le_bytes w64 eight → Some (v, cursor (at + 8)) ≡ fixed_at big 8 s at
+    unfolding fixed_value ordered
+    eight-little big b q =
+        subst (λ x. Some (v, cursor (at + 8)) ≡ fixed_at x 8 s at) (sym b)
+        (fixed-of false 8 (omega arith) h _ eight-there v (q ∙ value-eight _ _ _ _ _ _ _ _))
 
-    pub eight-big : big ≡ true → Some (last + 4294967296 * first, cursor (at + 8)) ≡ fixed_at big 8 s at
-    eight-big b =
-        eight_is _ (ap₂ (λ (x y : ℕ). x + 4294967296 * y) q p
-        ∙ subst (λ (c : Bool). fixed_value c (take 4 (drop (at + 4) s)) + 4294967296 * fixed_value c (take 4 (drop at s)) ≡ fixed_value c (take 8 (drop at s)))
-        (sym b) parts.0)
-
-    pub eight-little : big ≡ false → Some (first + 4294967296 * last, cursor (at + 8)) ≡ fixed_at big 8 s at
-    eight-little b =
-        eight_is _ (ap₂ (λ (x y : ℕ). x + 4294967296 * y) p q
-        ∙ subst (λ (c : Bool). fixed_value c (take 4 (drop at s)) + 4294967296 * fixed_value c (take 4 (drop (at + 4) s)) ≡ fixed_value c (take 8 (drop at s)))
-        (sym b) parts.1)
-
--- the answer of a width that was looked at
-module _ (big : Bool) (w : ℕ) (s : List ℕ) (at : ℕ) (r : Option (ℕ × Cursor)) where
-  pub width_one : w ≡ 1 → ((b : Bool) → r ≡ fixed_at b 1 s at) → r ≡ fixed_at big w s at
-  width_one q h = h big ∙ ap (λ (n : ℕ). fixed_at big n s at) (sym q)
-
-  pub width_is : (n : ℕ) → w ≡ n → r ≡ fixed_at big n s at → r ≡ fixed_at big w s at
-  width_is n q h = h ∙ ap (λ (n : ℕ). fixed_at big n s at) (sym q)
+    pub eight-big : (big : Bool) → big ≡ true → v ≡ from_be_bytes w64 eight → Some (v, cursor (at + 8)) ≡ fixed_at big 8 s at
+    unfolding fixed_value ordered
+    eight-big big b q =
+        subst (λ x. Some (v, cursor (at + 8)) ≡ fixed_at x 8 s at) (sym b)
+        (fixed-of true 8 (omega arith) h _ eight-there v (q ∙ turned-eight _ _ _ _ _ _ _ _))
 
 -- ---- a run of bytes
 

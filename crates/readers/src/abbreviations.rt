@@ -76,38 +76,14 @@ fn implicit_spec(s: &[u8], name: u64, form: u64, c: Cursor) -> Option<SpecStep>
 fn plain_spec(name: u64, form: u64) -> bool
     ensures { result ≡ true → PlainSpec name form }
 {
-    if name == 0 {
-        return false;
-    }
-    if name >= 128 {
-        return false;
-    }
-    if form == 0 {
-        return false;
-    }
-    if form >= 128 {
-        return false;
-    }
-    form != DW_FORM_implicit_const
+    name != 0 && name < 128 && form != 0 && form < 128 && form != DW_FORM_implicit_const
 }
 
 // Whether three bytes are a code, a tag and a children byte of a declaration.
 fn plain_head(code: u64, tag: u64, children: u64) -> bool
     ensures { result ≡ true → PlainHead code tag children }
 {
-    if code == 0 {
-        return false;
-    }
-    if code >= 128 {
-        return false;
-    }
-    if tag == 0 {
-        return false;
-    }
-    if tag >= 128 {
-        return false;
-    }
-    children <= DW_CHILDREN_yes
+    code != 0 && code < 128 && tag != 0 && tag < 128 && children <= DW_CHILDREN_yes
 }
 
 impl Cursor {
@@ -140,13 +116,10 @@ impl Cursor {
     {
         let (name, after_name) = self.short(s)?;
         let (form, after_form) = after_name.short(s)?;
-        if name == 0 {
-            if form == 0 {
-                return Some(SpecStep::Last(after_form));
-            }
-            return None;
+        if name == 0 && form == 0 {
+            return Some(SpecStep::Last(after_form));
         }
-        if form == 0 {
+        if name == 0 || form == 0 {
             return None;
         }
         implicit_spec(s, name, form, after_form)
@@ -241,6 +214,7 @@ impl Cursor {
     pub fn search(self, s: &[u8], to: usize, code: u64) -> Option<Declaration>
         ensures { result ≡ search_at s.now to code self.at }
     {
+        // No for: each declaration says where the next one starts.
         let mut c = self;
         while c.at < to {
             match c.declaration(s)? {
@@ -272,12 +246,9 @@ fn gather(s: &[u8], start: usize, index: &mut [u64]) -> Option<usize>
             DeclarationStep::Declaration(_, next) => {
                 if count < index.len() {
                     index[count] = (c.at as u64) + 1;
-                    count += 1;
-                    c = next;
-                } else {
-                    count += 1;
-                    c = next;
                 }
+                count += 1;
+                c = next;
             }
             DeclarationStep::Last(_) => {
                 return Some(count);
@@ -358,27 +329,21 @@ pub fn check_abbreviations(s: &[u8], from: u64, index: &mut [u64]) -> Checked
 fn holds_code(s: &[u8], slot: u64, code: u64) -> bool
     ensures { result ≡ holds_code s.now slot code }
 {
-    if slot == 0 {
-        return false;
-    }
-    slot_code(s, slot) == code
+    slot != 0 && slot_code(s, slot) == code
 }
 
 // A slot of the index; an empty one past its end.
 fn slot_at(index: &[u64], i: usize) -> u64
     ensures { result ≡ get_or index.now i 0 }
 {
-    if i < index.len() {
-        return index[i];
-    }
-    0
+    index.get(i).copied().unwrap_or(0)
 }
 
 // The number before a number; before 0 there is none, and it stays.
 fn number_before(n: u64) -> usize
     ensures { result ≡ n - 1 }
 {
-    if n == 0 { 0 } else { (n - 1) as usize }
+    n.saturating_sub(1) as usize
 }
 
 // The declaration whose place a slot holds, by its head.

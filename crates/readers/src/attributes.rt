@@ -23,7 +23,7 @@ pub struct Attribute {
 }
 
 // The token of each form below 0x2d, by its code (specs/Forms.antt).
-const FORMS: [u8; 45] = [
+static FORMS: [u8; 45] = [
     UNREADABLE, // 0x00
     ADDRESS, // 0x01 DW_FORM_addr
     UNREADABLE, // 0x02
@@ -75,14 +75,11 @@ const FORMS: [u8; 45] = [
 pub fn form_token(form: u64) -> u8
     ensures { result ≡ form_token form }
 {
-    if form < 45 {
-        let i = form as usize;
+    let i = form as usize;
+    if i < FORMS.len() {
         return FORMS[i];
     }
-    if form == DW_FORM_GNU_str_index {
-        return ULEB128;
-    }
-    if form == DW_FORM_GNU_addr_index {
+    if form == DW_FORM_GNU_str_index || form == DW_FORM_GNU_addr_index {
         return ULEB128;
     }
     UNREADABLE
@@ -93,50 +90,33 @@ pub fn in_version(version: u16, form: u64) -> bool
     ensures { result ≡ in_version version form }
 {
     if version == 4 {
-        if form == DW_FORM_rnglistx {
-            return false;
-        }
-        return form != DW_FORM_loclistx;
+        form != DW_FORM_rnglistx && form != DW_FORM_loclistx
+    } else {
+        form != DW_FORM_GNU_addr_index
     }
-    form != DW_FORM_GNU_addr_index
 }
 
 // The number of the index list of a form: 0 ranges, 1 locations, 2 strings; 3 for a form that is no index.
 pub fn list_of(form: u64) -> u8
     ensures { result ≡ list_form form }
 {
-    if form == DW_FORM_rnglistx {
-        return 0;
+    match form {
+        DW_FORM_rnglistx => 0,
+        DW_FORM_loclistx => 1,
+        DW_FORM_strx | DW_FORM_strx1..=DW_FORM_strx4 | DW_FORM_GNU_str_index => 2,
+        _ => 3,
     }
-    if form == DW_FORM_loclistx {
-        return 1;
-    }
-    if form == DW_FORM_strx {
-        return 2;
-    }
-    if form < DW_FORM_strx1 {
-        return 3;
-    }
-    if form <= DW_FORM_strx4 {
-        return 2;
-    }
-    if form == DW_FORM_GNU_str_index {
-        return 2;
-    }
-    3
 }
 
 // The width of a token of a fixed width: no bytes, a number of 1 to 8 bytes, an address or an offset.
 fn width_of(token: u8, e: Encoding) -> usize
     ensures { result ≡ width_of e token }
 {
-    if token <= BYTES8 {
-        return token as usize;
+    match token {
+        ..=BYTES8 => token as usize,
+        ADDRESS => e.address_size as usize,
+        _ => e.offset_size as usize,
     }
-    if token == ADDRESS {
-        return e.address_size as usize;
-    }
-    e.offset_size as usize
 }
 
 // A value in a form, by what its field reads.
@@ -176,15 +156,11 @@ impl Cursor {
     fn value(self, s: &[u8], indirect: bool, name: u64, form: u64, e: Encoding) -> Option<Field>
         ensures { result ≡ token_at e s.now self.at (value_token e indirect name form) }
     {
-        if name == DW_AT_sibling {
-            if form == DW_FORM_exprloc {
-                return None;
-            }
+        if name == DW_AT_sibling && form == DW_FORM_exprloc {
+            return None;
         }
-        if indirect {
-            if form == DW_FORM_implicit_const {
-                return None;
-            }
+        if indirect && form == DW_FORM_implicit_const {
+            return None;
         }
         if !in_version(e.version, form) {
             return None;

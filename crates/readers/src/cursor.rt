@@ -1,7 +1,7 @@
 // Where a reader stands, what it reads by, and the numbers that DWARF is made of. Each read takes the cursor and
 // hands back what it read and the next cursor, or only that; None where it can't be read.
-ghost use Rattle.std.specs.Prelude.{◌≡◌, ◌+◌, ◌*◌, ◌-◌, ◌≤◌, ◌<◌, Bool, length, take, drop};
-ghost use Rattle.readers.specs.Numbers.{fixed_value, uleb, sleb};
+ghost use Rattle.std.specs.Prelude.{◌≡◌, ◌-◌, Bool, length};
+ghost use Rattle.readers.specs.Numbers.{uleb, sleb};
 ghost use Rattle.readers.specs.Layout.{short};
 ghost use Rattle.readers.specs.Cursors.{groups_at, leb_at, fixed_at, skip_at, string_at, forms_at};
 
@@ -36,27 +36,7 @@ pub struct Groups {
 pub fn left(s: &[u8], at: usize) -> usize
     ensures { result ≡ length s.now - at }
 {
-    if at < s.len() { s.len() - at } else { 0 }
-}
-
-// The number that four bytes are, the lowest first.
-fn four_bytes(a: u8, b: u8, c: u8, d: u8) -> u64
-    ensures is { result ≡ a + 256 * (b + 256 * (c + 256 * d)) }
-    ensures below { result < 4294967296 }
-{
-    (a as u64) + 256 * ((b as u64) + 256 * ((c as u64) + 256 * (d as u64)))
-}
-
-// The number that the four bytes at a place are.
-fn four_at(s: &[u8], at: usize, big_endian: bool) -> u64
-    requires { at + 4 ≤ length s.now }
-    ensures is { result ≡ fixed_value big_endian (take 4 (drop at s.now)) }
-    ensures below { result < 4294967296 }
-{
-    if big_endian {
-        return four_bytes(s[at + 3], s[at + 2], s[at + 1], s[at]);
-    }
-    four_bytes(s[at], s[at + 1], s[at + 2], s[at + 3])
+    s.len().saturating_sub(at)
 }
 
 impl Cursor {
@@ -64,38 +44,36 @@ impl Cursor {
     pub fn groups(self, s: &[u8]) -> Option<Groups>
         ensures { result ≡ groups_at s.now self.at }
     {
-        let mut at = self.at;
+        let at = self.at;
+        let size = left(s, at);
         let mut low: u64 = 0;
         let mut weight: u64 = 1;
-        let mut i: usize = 0;
-        while i < 9 {
-            if at >= s.len() {
+        for k in 0..9 {
+            if k >= size {
                 return None;
             }
-            let b = s[at] as u64;
-            at += 1;
+            let b = s[at + k] as u64;
             if b < 128 {
                 return Some(Groups {
                     low: low + b * weight,
                     high: 0,
                     weight,
-                    next: Cursor { at },
+                    next: Cursor { at: at + k + 1 },
                 });
             }
             low += (b - 128) * weight;
             weight *= 128;
-            i += 1;
         }
-        if at >= s.len() {
+        if size <= 9 {
             return None;
         }
-        let b = s[at] as u64;
+        let b = s[at + 9] as u64;
         if b < 128 {
             return Some(Groups {
                 low,
                 high: b,
                 weight,
-                next: Cursor { at: at + 1 },
+                next: Cursor { at: at + 10 },
             });
         }
         None
@@ -143,13 +121,11 @@ impl Cursor {
             next,
         } = self.groups(s)?;
         if weight == 0x8000_0000_0000_0000 {
-            if high == 0 {
-                return Some((low, next));
-            }
-            if high == 127 {
-                return Some((low + 0x8000_0000_0000_0000, next));
-            }
-            return None;
+            return match high {
+                0 => Some((low, next)),
+                127 => Some((low + 0x8000_0000_0000_0000, next)),
+                _ => None,
+            };
         }
         if low < 64 * weight {
             return Some((low, next));
@@ -174,37 +150,17 @@ impl Cursor {
         self.long_sleb(s)
     }
 
-    // A number in at most three bytes and 16 bits, of any length.
-    fn long_short(self, s: &[u8]) -> Option<(u64, Cursor)>
-        ensures { result ≡ leb_at short s.now self.at }
-    {
-        let Groups {
-            low,
-            weight,
-            next,
-            ..
-        } = self.groups(s)?;
-        if weight > 16384 {
-            return None;
-        }
-        if low < 65536 {
-            return Some((low, next));
-        }
-        None
-    }
-
-    // A number in at most three bytes and 16 bits: a tag, a name or a form. Most have one byte.
+    // A number in at most three bytes and 16 bits: a tag, a name or a form.
     pub fn short(self, s: &[u8]) -> Option<(u64, Cursor)>
         ensures { result ≡ leb_at short s.now self.at }
     {
-        let at = self.at;
-        if at < s.len() {
-            let b = s[at] as u64;
-            if b < 128 {
-                return Some((b, Cursor { at: at + 1 }));
-            }
+        let (value, next) = self.uleb(s)?;
+        let width = next.at - self.at;
+        if width <= 3 && value < 65536 {
+            Some((value, next))
+        } else {
+            None
         }
-        self.long_short(s)
     }
 
     // A byte.
@@ -223,10 +179,16 @@ impl Cursor {
         ensures { result ≡ fixed_at big_endian 4 s.now self.at }
     {
         let at = self.at;
-        if 4 > left(s, at) {
+        if left(s, at) < 4 {
             return None;
         }
-        Some((four_at(s, at, big_endian), Cursor { at: at + 4 }))
+        let bytes = [s[at], s[at + 1], s[at + 2], s[at + 3]];
+        let value = if big_endian {
+            u32::from_be_bytes(bytes)
+        } else {
+            u32::from_le_bytes(bytes)
+        };
+        Some((u64::from(value), Cursor { at: at + 4 }))
     }
 
     // Eight bytes.
@@ -234,31 +196,37 @@ impl Cursor {
         ensures { result ≡ fixed_at big_endian 8 s.now self.at }
     {
         let at = self.at;
-        if 8 > left(s, at) {
+        if left(s, at) < 8 {
             return None;
         }
-        let first = four_at(s, at, big_endian);
-        let last = four_at(s, at + 4, big_endian);
-        if big_endian {
-            return Some((last + 4294967296 * first, Cursor { at: at + 8 }));
-        }
-        Some((first + 4294967296 * last, Cursor { at: at + 8 }))
+        let bytes = [
+            s[at],
+            s[at + 1],
+            s[at + 2],
+            s[at + 3],
+            s[at + 4],
+            s[at + 5],
+            s[at + 6],
+            s[at + 7],
+        ];
+        let value = if big_endian {
+            u64::from_be_bytes(bytes)
+        } else {
+            u64::from_le_bytes(bytes)
+        };
+        Some((value, Cursor { at: at + 8 }))
     }
 
     // A number of a fixed width, at most eight bytes. Those of one, four and eight bytes are read at once.
     pub fn fixed(self, s: &[u8], width: usize, big_endian: bool) -> Option<(u64, Cursor)>
         ensures { result ≡ fixed_at big_endian width s.now self.at }
     {
-        if width == 1 {
-            return self.byte(s);
+        match width {
+            1 => self.byte(s),
+            4 => self.four(s, big_endian),
+            8 => self.eight(s, big_endian),
+            _ => self.bytewise(s, width, big_endian),
         }
-        if width == 4 {
-            return self.four(s, big_endian);
-        }
-        if width == 8 {
-            return self.eight(s, big_endian);
-        }
-        self.bytewise(s, width, big_endian)
     }
 
     // A number of a fixed width, byte by byte.
@@ -266,22 +234,17 @@ impl Cursor {
         ensures { result ≡ fixed_at big_endian width s.now self.at }
     {
         let at = self.at;
-        if width > 8 {
-            return None;
-        }
-        if width > left(s, at) {
+        if width > 8 || width > left(s, at) {
             return None;
         }
         let mut value: u64 = 0;
-        let mut i: usize = 0;
-        while i < width {
+        for i in 0..width {
             let k = if big_endian {
                 at + i
             } else {
                 at + (width - 1 - i)
             };
             value = value * 256 + (s[k] as u64);
-            i += 1;
         }
         Some((value, Cursor { at: at + width }))
     }
@@ -317,12 +280,9 @@ impl Cursor {
     pub fn string(self, s: &[u8]) -> Option<Cursor>
         ensures { result ≡ string_at s.now self.at }
     {
-        let mut at = self.at;
-        while at < s.len() {
-            let b = s[at];
-            at += 1;
-            if b == 0 {
-                return Some(Cursor { at });
+        for at in self.at..s.len() {
+            if s[at] == 0 {
+                return Some(Cursor { at: at + 1 });
             }
         }
         None

@@ -151,13 +151,11 @@ impl Nesting {
     pub fn after_entry(self, entry: EntryIndex, children: bool) -> Nesting
         ensures { result ≡ nesting_opened children entry.0 self }
     {
-        if children {
-            if self.depth < 0xffff_ffff_ffff_ffff {
-                return Nesting {
-                    depth: self.depth + 1,
-                    parent: entry,
-                };
-            }
+        if children && self.depth < u64::MAX {
+            return Nesting {
+                depth: self.depth + 1,
+                parent: entry,
+            };
         }
         self
     }
@@ -171,15 +169,9 @@ impl Nesting {
         }
         let parent = self.parent;
         let i = parent.0 as usize;
-        if i < parents.len() {
-            return Nesting {
-                depth: self.depth - 1,
-                parent: EntryIndex(parents[i]),
-            };
-        }
         Nesting {
             depth: self.depth - 1,
-            parent: EntryIndex(NO_PARENT),
+            parent: EntryIndex(parents.get(i).copied().unwrap_or(NO_PARENT)),
         }
     }
 }

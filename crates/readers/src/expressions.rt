@@ -1,6 +1,6 @@
 // Expressions: whether they can be read, and the entries that they name.
 ghost use Rattle.std.specs.Prelude.{◌≡◌, ◌++◌, ◌*◌, ◌-◌, length};
-ghost use Rattle.readers.specs.Choice.{◌and◌, ◌or◌};
+ghost use Rattle.readers.specs.Choice.{◌and◌};
 ghost use Rattle.readers.specs.Choice.{zeros};
 ghost use Rattle.readers.specs.References.{walk_of, named, named_type, reference_of, next_reference};
 ghost use Rattle.readers.specs.Inner.References.{own_walk, Room};
@@ -9,6 +9,7 @@ ghost use Rattle.readers.specs.References.{flat_from, references_answer, referen
 
 use crate::cursor::{Cursor, Encoding};
 use crate::fields::Field;
+use crate::header::size_known;
 use crate::layouts::*;
 use crate::offsets::UnitOffset;
 use crate::operations::Operation;
@@ -29,7 +30,7 @@ pub struct Reference {
 fn width(f: Field) -> usize
     ensures { result ≡ f.end - f.start }
 {
-    if f.start <= f.end { f.end - f.start } else { 0 }
+    f.end.saturating_sub(f.start)
 }
 
 fn named(f: Field, leb: bool, next: Cursor) -> Option<Reference>
@@ -63,22 +64,12 @@ fn reference_of(op: Operation) -> Option<Reference>
     let first = op.first;
     let second = op.second;
     let next = op.next;
-    if row < ROW_REFERENCE2 {
-        return None;
+    match row {
+        ROW_REFERENCE2 | ROW_REFERENCE4 => named(first, false, next),
+        ROW_TYPE | ROW_TYPE_BLOCK1 => named_type(first, next),
+        ROW_REGISTER_TYPE | ROW_BYTES1_TYPE => named_type(second, next),
+        _ => None,
     }
-    if row <= ROW_REFERENCE4 {
-        return named(first, false, next);
-    }
-    if row == ROW_TYPE {
-        return named_type(first, next);
-    }
-    if row <= ROW_BYTES1_TYPE {
-        return named_type(second, next);
-    }
-    if row == ROW_TYPE_BLOCK1 {
-        return named_type(first, next);
-    }
-    None
 }
 
 // What an operation that is no entry value holds by itself, as a walk tells it.
@@ -86,10 +77,7 @@ fn own_walk(op: Operation) -> Option<(usize, bool)>
     ensures { result ≡ own_walk op }
 {
     let row = op.row;
-    if row == ROW_OFFSET {
-        return Some((0, true));
-    }
-    if row == ROW_OFFSET_SLEB128 {
+    if row == ROW_OFFSET || row == ROW_OFFSET_SLEB128 {
         return Some((0, true));
     }
     match reference_of(op) {
@@ -98,36 +86,28 @@ fn own_walk(op: Operation) -> Option<(usize, bool)>
     }
 }
 
-fn either(a: bool, b: bool) -> bool
-    ensures { result ≡ (a or b) }
-{
-    if a { true } else { b }
-}
-
-// Walks an expression to its end: how many references it holds, nested ones included, and whether it names anything by
-// an offset in the section. An entry value is walked by the same routine, on the part that it holds.
+// Walks an expression to its end. An entry value is walked by the same routine, on the part that it holds.
 pub fn walk_expression(s: &[u8], e: Encoding) -> Option<(usize, bool)>
     ensures { result ≡ walk_of e s.now }
 {
     let mut c = Cursor { at: 0 };
     let mut references: usize = 0;
     let mut absolute = false;
+    // No for: each operation says where the next one starts.
     while c.at < s.len() {
         let op = c.operation(s, e)?;
         let row = op.row;
         let first = op.first;
         let next = op.next;
-        if row == ROW_EXPRESSION {
-            let (more, named) = walk_expression(first.expression(s), e)?;
-            references += more;
-            absolute = either(absolute, named);
-            c = next;
+        let walk = if row == ROW_EXPRESSION {
+            walk_expression(first.expression(s), e)
         } else {
-            let (more, named) = own_walk(op)?;
-            references += more;
-            absolute = either(absolute, named);
-            c = next;
-        }
+            own_walk(op)
+        };
+        let (more, named) = walk?;
+        references += more;
+        absolute |= named;
+        c = next;
     }
     Some((references, absolute))
 }
@@ -141,6 +121,7 @@ impl Cursor {
     pub fn next_reference(self, s: &[u8], e: Encoding) -> Option<Reference>
         ensures { result ≡ next_reference e s.now self.at }
     {
+        // No for: each operation says where the next one starts.
         let mut c = self;
         while c.at < s.len() {
             let op = c.operation(s, e)?;
@@ -164,21 +145,10 @@ impl Cursor {
     }
 }
 
-// Whether a size is that of an address or of an offset.
-fn size_known(n: u8) -> bool
-    ensures { result ≡ size_known n }
-{
-    if n == 4 { true } else { n == 8 }
-}
-
 fn sizes_known(address_size: u8, offset_size: u8) -> bool
     ensures { result ≡ (size_known address_size and size_known offset_size) }
 {
-    if size_known(address_size) {
-        size_known(offset_size)
-    } else {
-        false
-    }
+    size_known(address_size) && size_known(offset_size)
 }
 
 // The references of an expression, in walk order: three numbers each, where its operand stands, the offset that it
@@ -225,8 +195,7 @@ fn fill_references(s: &[u8], e: Encoding, table: &mut [u64], count: usize)
         ≡ numbers_of (flat_from e s.now 0) ++ zeros (length table.old - 3 * count) }
 {
     let mut c = Cursor { at: 0 };
-    let mut i: usize = 0;
-    while i < count {
+    for i in 0..count {
         let Some(r) = c.next_reference(s, e) else {
             return;
         };
@@ -236,6 +205,5 @@ fn fill_references(s: &[u8], e: Encoding, table: &mut [u64], count: usize)
         table[3 * i + 1] = target.0;
         table[3 * i + 2] = r.width as u64;
         c = next;
-        i += 1;
     }
 }

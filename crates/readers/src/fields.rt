@@ -1,7 +1,7 @@
 // One token of a layout, read by its number, and rows of up to three of them.
 ghost use Rattle.std.specs.Prelude.{◌≡◌};
 ghost use Rattle.readers.specs.Fields.{block_field, field_at, row_at, exprloc_at, part_of};
-ghost use Rattle.readers.specs.Inner.Fields.{number_field, bounded_field, number_at};
+ghost use Rattle.readers.specs.Inner.Fields.{number_field, bounded_field, moved_field, number_at};
 ghost use Rattle.readers.specs.Cursors.{cursor};
 
 use crate::cursor::{Cursor, Encoding, left};
@@ -24,107 +24,39 @@ pub struct Operands {
     pub third: Field,
 }
 
-// The first, the second and the third token of each row (specs/Operations.antt).
-const FIRST: [u8; 31] = [
-    UNREADABLE, // ROW_UNREADABLE
-    NO_BYTES, // ROW_NONE
-    ADDRESS, // ROW_ADDRESS
-    BYTES1, // ROW_BYTES1
-    BYTES2, // ROW_BYTES2
-    BYTES4, // ROW_BYTES4
-    BYTES8, // ROW_BYTES8
-    ULEB128, // ROW_ULEB128
-    SLEB128, // ROW_SLEB128
-    REGISTER, // ROW_REGISTER
-    REGISTER, // ROW_REGISTER_SLEB128
-    ULEB128, // ROW_ULEB128_ULEB128
-    BYTES2, // ROW_REFERENCE2
-    BYTES4, // ROW_REFERENCE4
-    ULEB128, // ROW_TYPE
-    REGISTER, // ROW_REGISTER_TYPE
-    BYTES1, // ROW_BYTES1_TYPE
-    ULEB128, // ROW_TYPE_BLOCK1
-    BLOCK_ULEB128, // ROW_BLOCK
-    EXPRLOC, // ROW_EXPRESSION
-    OFFSET, // ROW_OFFSET
-    OFFSET, // ROW_OFFSET_SLEB128
-    ULEB128, // ROW_ADDRESS_INDEX
-    ADDRESS, // ROW_ADDRESS_ADDRESS
-    ADDRESS, // ROW_ADDRESS_ULEB128
-    ULEB128, // ROW_ULEB128_ULEB128_EXPRESSION
-    ADDRESS, // ROW_ADDRESS_ADDRESS_EXPRESSION
-    ADDRESS, // ROW_ADDRESS_ULEB128_EXPRESSION
-    ULEB128, // ROW_ULEB128_ULEB128_BLOCK2
-    ULEB128, // ROW_ULEB128_BYTES4_BLOCK2
-    BYTES4, // ROW_BYTES4_BYTES4_BLOCK2
-];
-
-const SECOND: [u8; 31] = [
-    NO_BYTES, // ROW_UNREADABLE
-    NO_BYTES, // ROW_NONE
-    NO_BYTES, // ROW_ADDRESS
-    NO_BYTES, // ROW_BYTES1
-    NO_BYTES, // ROW_BYTES2
-    NO_BYTES, // ROW_BYTES4
-    NO_BYTES, // ROW_BYTES8
-    NO_BYTES, // ROW_ULEB128
-    NO_BYTES, // ROW_SLEB128
-    NO_BYTES, // ROW_REGISTER
-    SLEB128, // ROW_REGISTER_SLEB128
-    ULEB128, // ROW_ULEB128_ULEB128
-    NO_BYTES, // ROW_REFERENCE2
-    NO_BYTES, // ROW_REFERENCE4
-    NO_BYTES, // ROW_TYPE
-    ULEB128, // ROW_REGISTER_TYPE
-    ULEB128, // ROW_BYTES1_TYPE
-    BLOCK1, // ROW_TYPE_BLOCK1
-    NO_BYTES, // ROW_BLOCK
-    NO_BYTES, // ROW_EXPRESSION
-    NO_BYTES, // ROW_OFFSET
-    SLEB128, // ROW_OFFSET_SLEB128
-    NO_BYTES, // ROW_ADDRESS_INDEX
-    ADDRESS, // ROW_ADDRESS_ADDRESS
-    ULEB128, // ROW_ADDRESS_ULEB128
-    ULEB128, // ROW_ULEB128_ULEB128_EXPRESSION
-    ADDRESS, // ROW_ADDRESS_ADDRESS_EXPRESSION
-    ULEB128, // ROW_ADDRESS_ULEB128_EXPRESSION
-    ULEB128, // ROW_ULEB128_ULEB128_BLOCK2
-    BYTES4, // ROW_ULEB128_BYTES4_BLOCK2
-    BYTES4, // ROW_BYTES4_BYTES4_BLOCK2
-];
-
-const THIRD: [u8; 31] = [
-    NO_BYTES, // ROW_UNREADABLE
-    NO_BYTES, // ROW_NONE
-    NO_BYTES, // ROW_ADDRESS
-    NO_BYTES, // ROW_BYTES1
-    NO_BYTES, // ROW_BYTES2
-    NO_BYTES, // ROW_BYTES4
-    NO_BYTES, // ROW_BYTES8
-    NO_BYTES, // ROW_ULEB128
-    NO_BYTES, // ROW_SLEB128
-    NO_BYTES, // ROW_REGISTER
-    NO_BYTES, // ROW_REGISTER_SLEB128
-    NO_BYTES, // ROW_ULEB128_ULEB128
-    NO_BYTES, // ROW_REFERENCE2
-    NO_BYTES, // ROW_REFERENCE4
-    NO_BYTES, // ROW_TYPE
-    NO_BYTES, // ROW_REGISTER_TYPE
-    NO_BYTES, // ROW_BYTES1_TYPE
-    NO_BYTES, // ROW_TYPE_BLOCK1
-    NO_BYTES, // ROW_BLOCK
-    NO_BYTES, // ROW_EXPRESSION
-    NO_BYTES, // ROW_OFFSET
-    NO_BYTES, // ROW_OFFSET_SLEB128
-    NO_BYTES, // ROW_ADDRESS_INDEX
-    NO_BYTES, // ROW_ADDRESS_ADDRESS
-    NO_BYTES, // ROW_ADDRESS_ULEB128
-    EXPRLOC, // ROW_ULEB128_ULEB128_EXPRESSION
-    EXPRLOC, // ROW_ADDRESS_ADDRESS_EXPRESSION
-    EXPRLOC, // ROW_ADDRESS_ULEB128_EXPRESSION
-    BLOCK2, // ROW_ULEB128_ULEB128_BLOCK2
-    BLOCK2, // ROW_ULEB128_BYTES4_BLOCK2
-    BLOCK2, // ROW_BYTES4_BYTES4_BLOCK2
+// The three tokens of each row (specs/Operations.antt).
+static ROWS: [[u8; 3]; 31] = [
+    [UNREADABLE, NO_BYTES, NO_BYTES], // ROW_UNREADABLE
+    [NO_BYTES, NO_BYTES, NO_BYTES], // ROW_NONE
+    [ADDRESS, NO_BYTES, NO_BYTES], // ROW_ADDRESS
+    [BYTES1, NO_BYTES, NO_BYTES], // ROW_BYTES1
+    [BYTES2, NO_BYTES, NO_BYTES], // ROW_BYTES2
+    [BYTES4, NO_BYTES, NO_BYTES], // ROW_BYTES4
+    [BYTES8, NO_BYTES, NO_BYTES], // ROW_BYTES8
+    [ULEB128, NO_BYTES, NO_BYTES], // ROW_ULEB128
+    [SLEB128, NO_BYTES, NO_BYTES], // ROW_SLEB128
+    [REGISTER, NO_BYTES, NO_BYTES], // ROW_REGISTER
+    [REGISTER, SLEB128, NO_BYTES], // ROW_REGISTER_SLEB128
+    [ULEB128, ULEB128, NO_BYTES], // ROW_ULEB128_ULEB128
+    [BYTES2, NO_BYTES, NO_BYTES], // ROW_REFERENCE2
+    [BYTES4, NO_BYTES, NO_BYTES], // ROW_REFERENCE4
+    [ULEB128, NO_BYTES, NO_BYTES], // ROW_TYPE
+    [REGISTER, ULEB128, NO_BYTES], // ROW_REGISTER_TYPE
+    [BYTES1, ULEB128, NO_BYTES], // ROW_BYTES1_TYPE
+    [ULEB128, BLOCK1, NO_BYTES], // ROW_TYPE_BLOCK1
+    [BLOCK_ULEB128, NO_BYTES, NO_BYTES], // ROW_BLOCK
+    [EXPRLOC, NO_BYTES, NO_BYTES], // ROW_EXPRESSION
+    [OFFSET, NO_BYTES, NO_BYTES], // ROW_OFFSET
+    [OFFSET, SLEB128, NO_BYTES], // ROW_OFFSET_SLEB128
+    [ULEB128, NO_BYTES, NO_BYTES], // ROW_ADDRESS_INDEX
+    [ADDRESS, ADDRESS, NO_BYTES], // ROW_ADDRESS_ADDRESS
+    [ADDRESS, ULEB128, NO_BYTES], // ROW_ADDRESS_ULEB128
+    [ULEB128, ULEB128, EXPRLOC], // ROW_ULEB128_ULEB128_EXPRESSION
+    [ADDRESS, ADDRESS, EXPRLOC], // ROW_ADDRESS_ADDRESS_EXPRESSION
+    [ADDRESS, ULEB128, EXPRLOC], // ROW_ADDRESS_ULEB128_EXPRESSION
+    [ULEB128, ULEB128, BLOCK2], // ROW_ULEB128_ULEB128_BLOCK2
+    [ULEB128, BYTES4, BLOCK2], // ROW_ULEB128_BYTES4_BLOCK2
+    [BYTES4, BYTES4, BLOCK2], // ROW_BYTES4_BYTES4_BLOCK2
 ];
 
 pub(crate) fn number_field(at: usize, n: Option<(u64, Cursor)>) -> Option<Field>
@@ -154,6 +86,18 @@ fn bounded_field(at: usize, n: Option<(u64, Cursor)>) -> Option<Field>
     }
 }
 
+// Bytes that are no number, up to the place that they were stepped over to.
+fn moved_field(at: usize, moved: Option<Cursor>) -> Option<Field>
+    ensures { result ≡ moved_field at moved }
+{
+    let next = moved?;
+    Some(Field {
+        value: 0,
+        start: at,
+        end: next.at,
+    })
+}
+
 // As many bytes as a length says.
 fn block_field(s: &[u8], n: Option<(u64, Cursor)>) -> Option<Field>
     ensures { result ≡ block_field s.now n }
@@ -176,16 +120,12 @@ impl Cursor {
     fn number(self, s: &[u8], token: u8, e: Encoding) -> Option<(u64, Cursor)>
         ensures { result ≡ number_at e s.now self.at token }
     {
-        if token <= BYTES8 {
-            return self.fixed(s, token as usize, e.big_endian);
+        match token {
+            ..=BYTES8 => self.fixed(s, token as usize, e.big_endian),
+            ADDRESS => self.address(s, e),
+            OFFSET => self.offset(s, e),
+            _ => self.uleb(s),
         }
-        if token == ADDRESS {
-            return self.address(s, e);
-        }
-        if token == OFFSET {
-            return self.offset(s, e);
-        }
-        self.uleb(s)
     }
 
     // A token by its number (specs/Tokens.antt).
@@ -193,54 +133,26 @@ impl Cursor {
         ensures { result ≡ field_at e s.now self.at token }
     {
         let at = self.at;
-        if token == NO_BYTES {
-            return Some(Field {
-                value: 0,
-                start: at,
-                end: at,
-            });
+        match token {
+            NO_BYTES => {
+                Some(Field {
+                    value: 0,
+                    start: at,
+                    end: at,
+                })
+            }
+            ..=ULEB128 => number_field(at, self.number(s, token, e)),
+            SLEB128 => number_field(at, self.long_sleb(s)),
+            NULL_TERMINATED => moved_field(at, self.string(s)),
+            DATA16 => moved_field(at, self.bytes(s, 16)),
+            BLOCK1 => block_field(s, self.number(s, BYTES1, e)),
+            BLOCK2 => block_field(s, self.number(s, BYTES2, e)),
+            BLOCK4 => block_field(s, self.number(s, BYTES4, e)),
+            BLOCK_ULEB128 => block_field(s, self.long_uleb(s)),
+            EXPRLOC => self.exprloc(s),
+            REGISTER => bounded_field(at, self.uleb(s)),
+            _ => None,
         }
-        if token <= ULEB128 {
-            return number_field(at, self.number(s, token, e));
-        }
-        if token == SLEB128 {
-            return number_field(at, self.long_sleb(s));
-        }
-        if token == NULL_TERMINATED {
-            let next = self.string(s)?;
-            return Some(Field {
-                value: 0,
-                start: at,
-                end: next.at,
-            });
-        }
-        if token == DATA16 {
-            let next = self.bytes(s, 16)?;
-            return Some(Field {
-                value: 0,
-                start: at,
-                end: next.at,
-            });
-        }
-        if token == BLOCK1 {
-            return block_field(s, self.number(s, BYTES1, e));
-        }
-        if token == BLOCK2 {
-            return block_field(s, self.number(s, BYTES2, e));
-        }
-        if token == BLOCK4 {
-            return block_field(s, self.number(s, BYTES4, e));
-        }
-        if token == BLOCK_ULEB128 {
-            return block_field(s, self.long_uleb(s));
-        }
-        if token == EXPRLOC {
-            return self.exprloc(s);
-        }
-        if token == REGISTER {
-            return bounded_field(at, self.uleb(s));
-        }
-        None
     }
 
     // A row of tokens by its number.
@@ -248,12 +160,13 @@ impl Cursor {
         ensures { result ≡ row_at e s.now self.at layout }
     {
         let l = layout as usize;
-        if l >= 31 {
+        if l >= ROWS.len() {
             return None;
         }
-        let first = self.field(s, FIRST[l], e)?;
-        let second = first.next().field(s, SECOND[l], e)?;
-        let third = second.next().field(s, THIRD[l], e)?;
+        let [one, two, three] = ROWS[l];
+        let first = self.field(s, one, e)?;
+        let second = first.next().field(s, two, e)?;
+        let third = second.next().field(s, three, e)?;
         Some(Operands {
             first,
             second,
@@ -276,18 +189,8 @@ impl Field {
     pub fn expression<'a>(self, s: &'a [u8]) -> &'a [u8]
         ensures { result.now ≡ part_of s.now self }
     {
-        let start = self.start;
-        let end = self.end;
-        if start >= end {
-            return &s[0..0];
-        }
-        if start >= s.len() {
-            return &s[0..0];
-        }
-        if end > s.len() {
-            return &s[start..];
-        }
-        &s[start..end]
+        let end = self.end.min(s.len());
+        &s[self.start.min(end)..end]
     }
 
     // The cursor past the field.

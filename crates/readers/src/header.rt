@@ -1,7 +1,7 @@
 // The header of a unit (DWARF 5, 7.5.1; DWARF 4, 7.5.1.1), within the domain: versions 4 and 5, both formats, either byte
 // order.
 ghost use Rattle.std.specs.Prelude.{◌≡◌, ◌≤◌, length, take};
-ghost use Rattle.readers.specs.Header.{length_bytes, fields4, fields5, header_fields, header_in, header_of};
+ghost use Rattle.readers.specs.Header.{length_bytes, fields4, fields5, header_fields, header_in, header_of, size_known};
 
 use crate::codes::{DW_UT_compile, DW_UT_split_compile};
 use crate::cursor::{Cursor, Encoding, left};
@@ -31,6 +31,13 @@ pub fn length_bytes(offset_size: u8) -> usize
     if offset_size == 8 { 12 } else { 4 }
 }
 
+// Whether a size is that of an address or of an offset.
+pub(crate) fn size_known(n: u8) -> bool
+    ensures { result ≡ size_known n }
+{
+    n == 4 || n == 8
+}
+
 // The fields of version 5 after the version, which ends at a place.
 fn fields_5(
     unit: &[u8],
@@ -45,20 +52,16 @@ fn fields_5(
         return Err(1);
     }
     let unit_type = unit[at];
-    if unit_type != DW_UT_compile {
-        if unit_type != DW_UT_split_compile {
-            return Err(2);
-        }
+    if unit_type != DW_UT_compile && unit_type != DW_UT_split_compile {
+        return Err(2);
     }
     let size_at = at + 1;
     if unit.len() <= size_at {
         return Err(1);
     }
     let address_size = unit[size_at];
-    if address_size != 4 {
-        if address_size != 8 {
-            return Err(2);
-        }
+    if !size_known(address_size) {
+        return Err(2);
     }
     let width = offset_size as usize;
     let (abbreviations, _) = (Cursor { at: at + 2 })
@@ -109,10 +112,8 @@ fn fields_4(
         return Err(1);
     }
     let address_size = unit[size_at];
-    if address_size != 4 {
-        if address_size != 8 {
-            return Err(2);
-        }
+    if !size_known(address_size) {
+        return Err(2);
     }
     Ok(Some(UnitHeader {
         encoding: Encoding {
@@ -138,13 +139,11 @@ fn header_fields(unit: &[u8], offset_size: u8, big_endian: bool) -> Result<Optio
     .fixed(unit, 2, big_endian)
     .ok_or(1)?;
     let at = next.at;
-    if version == 5 {
-        return fields_5(unit, at, offset_size, big_endian);
+    match version {
+        5 => fields_5(unit, at, offset_size, big_endian),
+        4 => fields_4(unit, at, offset_size, big_endian),
+        _ => Err(2),
     }
-    if version == 4 {
-        return fields_4(unit, at, offset_size, big_endian);
-    }
-    Err(2)
 }
 
 // The header of a unit that is the so many bytes after its length field; all of them must be there.
@@ -188,9 +187,5 @@ pub fn unit_header(section: &[u8], big_endian: bool) -> Result<Option<UnitHeader
 pub fn unit_part<'a>(section: &'a [u8], h: UnitHeader) -> &'a [u8]
     ensures { result.now ≡ take h.end section.now }
 {
-    let end = h.end;
-    if end <= section.len() {
-        return &section[..end];
-    }
-    section
+    &section[..h.end.min(section.len())]
 }

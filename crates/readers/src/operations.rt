@@ -1,9 +1,9 @@
 // Operations of expressions, and entries of range and location lists: a code and its row of operands.
-ghost use Rattle.std.specs.Prelude.{◌≡◌, true};
+ghost use Rattle.std.specs.Prelude.{◌≡◌};
 ghost use Rattle.readers.specs.Operations.{operation_row, list_row};
 ghost use Rattle.readers.specs.Fields.{row_at};
 ghost use Rattle.readers.specs.Steps.{operation_at, list_entry_at, row_operation, row_entry};
-ghost use Rattle.readers.specs.Inner.Steps.{OneUleb128, one_operand, two_numbers_row, third_operand};
+ghost use Rattle.readers.specs.Inner.Steps.{one_operand, two_numbers_row, third_operand};
 ghost use Rattle.readers.specs.declared.cursor.Encoding.{Encoding};
 
 use crate::codes::{
@@ -16,7 +16,7 @@ use crate::fields::{Field, Operands, number_field};
 use crate::layouts::*;
 
 // The row of operands of each operation, by its code (specs/Operations.antt).
-const OPERATIONS: [u8; 256] = [
+static OPERATIONS: [u8; 256] = [
     ROW_UNREADABLE, // 0x00
     ROW_UNREADABLE, // 0x01
     ROW_UNREADABLE, // 0x02
@@ -381,36 +381,14 @@ pub fn operation_row(code: u8) -> u8
 pub fn list_row(version: u16, location: bool, kind: u8) -> u8
     ensures { result ≡ list_row version location kind }
 {
-    let i = kind as usize;
-    if location {
-        if version == 4 {
-            if i < 5 {
-                return LOCATION_ENTRIES_4[i];
-            }
-            return ROW_UNREADABLE;
-        }
-        if i < 9 {
-            return LOCATION_ENTRIES[i];
-        }
-        return ROW_UNREADABLE;
-    }
-    if i < 8 {
-        return RANGE_ENTRIES[i];
-    }
-    ROW_UNREADABLE
-}
-
-// Whether a row is one ULEB128 number.
-fn one_uleb128(row: u8) -> bool
-    ensures { result ≡ true → OneUleb128 row }
-{
-    if row == ROW_ULEB128 {
-        return true;
-    }
-    if row == ROW_TYPE {
-        return true;
-    }
-    row == ROW_ADDRESS_INDEX
+    let rows: &[u8] = if !location {
+        &RANGE_ENTRIES
+    } else if version == 4 {
+        &LOCATION_ENTRIES_4
+    } else {
+        &LOCATION_ENTRIES
+    };
+    rows.get(kind as usize).copied().unwrap_or(ROW_UNREADABLE)
 }
 
 // An operation of one operand, or of none: the second field has no bytes.
@@ -491,32 +469,26 @@ impl Cursor {
         }
         let row = operation_row(s[at]);
         let start = at + 1;
-        if row == ROW_NONE {
-            return one_operand(
-                row,
-                Some(Field {
-                    value: 0,
-                    start,
-                    end: start,
-                }),
-            );
+        let operands = Cursor { at: start };
+        match row {
+            ROW_NONE => {
+                one_operand(
+                    row,
+                    Some(Field {
+                        value: 0,
+                        start,
+                        end: start,
+                    }),
+                )
+            }
+            ROW_SLEB128 => one_operand(row, number_field(start, operands.sleb(s))),
+            ROW_ULEB128 | ROW_TYPE | ROW_ADDRESS_INDEX => {
+                one_operand(row, number_field(start, operands.uleb(s)))
+            }
+            ROW_ADDRESS => one_operand(row, number_field(start, operands.address(s, e))),
+            ROW_EXPRESSION => one_operand(row, operands.exprloc(s)),
+            _ => operation_of(row, operands.row(s, row, e)),
         }
-        if row == ROW_SLEB128 {
-            return one_operand(row, number_field(start, (Cursor { at: start }).sleb(s)));
-        }
-        if one_uleb128(row) {
-            return one_operand(row, number_field(start, (Cursor { at: start }).uleb(s)));
-        }
-        if row == ROW_ADDRESS {
-            return one_operand(
-                row,
-                number_field(start, (Cursor { at: start }).address(s, e)),
-            );
-        }
-        if row == ROW_EXPRESSION {
-            return one_operand(row, (Cursor { at: start }).exprloc(s));
-        }
-        operation_of(row, (Cursor { at: start }).row(s, row, e))
     }
 
     // The entry of a range list, or of a location list, at a place.
@@ -533,13 +505,12 @@ impl Cursor {
         }
         let row = list_row(e.version, location, kind);
         let start = at + 1;
-        if row == ROW_ULEB128_ULEB128 {
-            return (Cursor { at: start }).two_numbers(s, kind, false);
+        let operands = Cursor { at: start };
+        match row {
+            ROW_ULEB128_ULEB128 => operands.two_numbers(s, kind, false),
+            ROW_ULEB128_ULEB128_EXPRESSION => operands.two_numbers(s, kind, true),
+            _ => entry_of(kind, operands.row(s, row, e)),
         }
-        if row == ROW_ULEB128_ULEB128_EXPRESSION {
-            return (Cursor { at: start }).two_numbers(s, kind, true);
-        }
-        entry_of(kind, (Cursor { at: start }).row(s, row, e))
     }
 
     // A list entry whose operands are two ULEB128 numbers, and an expression behind them where there is one.

@@ -1,4 +1,4 @@
-// Lent tables of numbers.
+// Lent tables of numbers. One function for each width: `zeros` are numbers, which a type parameter's values are not.
 ghost use Rattle.std.specs.Prelude.{◌≡◌, length};
 ghost use Rattle.readers.specs.Choice.{zeros};
 
@@ -6,31 +6,19 @@ ghost use Rattle.readers.specs.Choice.{zeros};
 pub fn clear(table: &mut [u64])
     ensures { table.new ≡ zeros (length table.old) }
 {
-    let mut i: usize = 0;
-    while i < table.len() {
-        table[i] = 0;
-        i += 1;
-    }
+    table.fill(0);
 }
 
 // The same for a table of entry indexes.
 pub fn clear_indexes(table: &mut [u32])
     ensures { table.new ≡ zeros (length table.old) }
 {
-    let mut i: usize = 0;
-    while i < table.len() {
-        table[i] = 0;
-        i += 1;
-    }
+    table.fill(0);
 }
 
 // The same for bytes.
 pub fn clear_bytes(table: &mut [u8])
     ensures { table.new ≡ zeros (length table.old) }
 {
-    let mut i: usize = 0;
-    while i < table.len() {
-        table[i] = 0;
-        i += 1;
-    }
+    table.fill(0);
 }

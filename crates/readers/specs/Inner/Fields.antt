@@ -16,6 +16,11 @@ unfoldable pub bounded_field : ℕ → Option (ℕ × Cursor) → Option Field
 bounded_field at (Some (v, c)) = pick (leb v 65535) (Some (record { value = v; start = at; end = c.at })) None
 bounded_field at None = None
 
+-- bytes that are no number
+unfoldable pub moved_field : ℕ → Option Cursor → Option Field
+moved_field at (Some c) = Some (record { value = 0; start = at; end = c.at })
+moved_field at None = None
+
 -- a number by its token
 unfoldable pub number_at : Encoding → List ℕ → ℕ → ℕ → Option (ℕ × Cursor)
 number_at e s at t =

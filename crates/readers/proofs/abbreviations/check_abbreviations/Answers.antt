@@ -2,18 +2,8 @@
 use mathlib.Core.Path.{ap, sym, ◌∙◌}
 use lib.ListN.{length}
 use Rattle.readers.specs.Choice.{zeros}
-use Rattle.readers.specs.Abbreviations.{index_of}
-use Rattle.readers.proofs.Declarations.{zeros-length, zeros-self, refused-index}
+use Rattle.readers.proofs.Declarations.{zeros-length, refused-index}
 use Rattle.readers.proofs.abbreviations.check_abbreviations.Goals as goal
-
-pub fill_index-requires : goal.fill_index-requires
-fill_index-requires c = zeros-self _ (length c.args.index.now) c.clear.ensures
-
-pub returns-in-Accepted : goal.returns-in-Accepted
-returns-in-Accepted c = record {
-  answer = sym c.in-Accepted.is ∙ c.fill_index.ensures.answer;
-  filled = c.fill_index.ensures.filled c.in-Accepted.is ∙ ap (index_of _ _) (zeros-length _ (length c.args.index.now) c.clear.ensures);
-}
 
 pub returns-in-Refused : goal.returns-in-Refused
 returns-in-Refused c = record {

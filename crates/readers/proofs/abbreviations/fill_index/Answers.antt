@@ -1,6 +1,5 @@
 -- `fill_index` meets its contract. Assumes nothing.
 use mathlib.Core.Path.{sym, ◌∙◌}
-use lib.Seq.{length-take-le}
 use Rattle.readers.proofs.Declarations.{refused-not, unreadable-refused, over-filled, filled-index}
 use Rattle.readers.proofs.abbreviations.fill_index.Goals as goal
 
@@ -15,9 +14,6 @@ returns-then-count-index c = record {
   answer = c.check_plain.ensures;
   filled = λ _. over-filled _ _ _ c.args.index.now c.gather.new.index c.gather.auto.index (sym c.in-Some.is ∙ c.gather.ensures.counted) _ c.if-count-index.true c.clear.ensures;
 }
-
-pub slice_bounds-order-end-2 : goal.slice_bounds-order-end-2
-slice_bounds-order-end-2 c = sym (length-take-le _ _ c.if-count-index.false)
 
 pub returns : goal.returns
 returns c = let p = filled-index _ _ _ c.args.index.now c.gather.new.index c.gather.auto.index (sym c.in-Some.is ∙ c.gather.ensures.counted) _ _ _ c.requires c.gather.ensures.gathered c.if-count-index.false c.order.ensures c.accept.ensures in record { answer = p.0; filled = p.1 }

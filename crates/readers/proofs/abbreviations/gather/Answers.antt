@@ -4,6 +4,7 @@ use mathlib.Core.Path.{ap, sym, ◌∙◌}
 use native.Mathlib.Omega.{arith}
 use Rattle.readers.proofs.Declarations.{declaration-ahead, gathering-none, gathering-count, gathering-more, gathering-over, gathering-last, gathering-bad}
 use Rattle.readers.proofs.abbreviations.gather.Goals as goal
+use Rattle.readers.proofs.abbreviations.gather.Goals.{then-count-index, else-count-index}
 
 pub loop-next-init : goal.loop-next-init
 loop-next-init c = gathering-none _ _ _
@@ -14,20 +15,15 @@ overflow_add-index c = omega (arith, declaration-ahead _ _ _ _ (sym c.declaratio
 pub overflow_add-count : goal.overflow_add-count
 overflow_add-count c = omega (arith, declaration-ahead _ _ _ _ (sym c.declaration.ensures ∙ (c.in_ok-next.was ∙ ap Some c.in-Declaration.is)), gathering-count _ _ _ _ _ _ c.loop-next.invariant)
 
-pub loop-next-smaller-then-count-index : goal.loop-next-smaller-then-count-index
-loop-next-smaller-then-count-index c = omega (arith, declaration-ahead _ _ _ _ (sym c.declaration.ensures ∙ (c.in_ok-next.was ∙ ap Some c.in-Declaration.is)))
-
-pub loop-next-preserved-then-count-index : goal.loop-next-preserved-then-count-index
-loop-next-preserved-then-count-index c = gathering-more _ _ _ _ _ _ c.loop-next.invariant _ _ (sym c.declaration.ensures ∙ (c.in_ok-next.was ∙ ap Some c.in-Declaration.is)) c.if-count-index.true
-
-pub overflow_add-count-else-count-index : goal.overflow_add-count-else-count-index
-overflow_add-count-else-count-index c = omega (arith, declaration-ahead _ _ _ _ (sym c.declaration.ensures ∙ (c.in_ok-next.was ∙ ap Some c.in-Declaration.is)), gathering-count _ _ _ _ _ _ c.loop-next.invariant)
-
 pub loop-next-smaller : goal.loop-next-smaller
 loop-next-smaller c = omega (arith, declaration-ahead _ _ _ _ (sym c.declaration.ensures ∙ (c.in_ok-next.was ∙ ap Some c.in-Declaration.is)))
 
 pub loop-next-preserved : goal.loop-next-preserved
-loop-next-preserved c = gathering-over _ _ _ _ _ _ c.loop-next.invariant _ _ (sym c.declaration.ensures ∙ (c.in_ok-next.was ∙ ap Some c.in-Declaration.is)) c.if-count-index.false
+loop-next-preserved c =
+    elim c.if-count-index.branch [
+      | then-count-index w ↦ rw w.index-is (gathering-more _ _ _ _ _ _ c.loop-next.invariant _ _ (sym c.declaration.ensures ∙ (c.in_ok-next.was ∙ ap Some c.in-Declaration.is)) w.if-count-index.true)
+      | else-count-index w ↦ rw w.index-is (gathering-over _ _ _ _ _ _ c.loop-next.invariant _ _ (sym c.declaration.ensures ∙ (c.in_ok-next.was ∙ ap Some c.in-Declaration.is)) w.if-count-index.false)
+    ]
 
 pub returns-in-Last : goal.returns-in-Last
 returns-in-Last c = let p = gathering-last _ _ _ _ _ _ c.loop-next.invariant _ (sym c.declaration.ensures ∙ (c.in_ok-next.was ∙ ap Some c.in-Last.is)) in record { counted = p.0; gathered = p.1 }

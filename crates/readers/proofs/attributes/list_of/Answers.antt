@@ -1,24 +1,22 @@
 -- `list_of`: by each form that is an index. Assumes nothing.
+use native.Mathlib.Omega.{arith}
 use Rattle.readers.proofs.FormKinds.{list-ranges, list-locations, list-strings, list-gnu, list-fixed, list-low, list-high}
 use Rattle.readers.proofs.attributes.list_of.Goals as goal
 
-pub returns-then-form-eq-DW_FORM_rnglistx : goal.returns-then-form-eq-DW_FORM_rnglistx
-returns-then-form-eq-DW_FORM_rnglistx c = list-ranges _ c.if-form-eq-DW_FORM_rnglistx.true
+pub returns-in-35 : goal.returns-in-35
+returns-in-35 c = list-ranges _ c.in-35.is
 
-pub returns-then-form-eq-DW_FORM_loclistx : goal.returns-then-form-eq-DW_FORM_loclistx
-returns-then-form-eq-DW_FORM_loclistx c = list-locations _ c.if-form-eq-DW_FORM_loclistx.true
+pub returns-in-34 : goal.returns-in-34
+returns-in-34 c = list-locations _ c.in-34.is
 
-pub returns-then-form-eq-DW_FORM_strx : goal.returns-then-form-eq-DW_FORM_strx
-returns-then-form-eq-DW_FORM_strx c = list-strings _ c.if-form-eq-DW_FORM_strx.true
+pub returns-in-26 : goal.returns-in-26
+returns-in-26 c = grind (arith, list-strings, list-gnu)
 
-pub returns-then-form-lt-DW_FORM_strx1 : goal.returns-then-form-lt-DW_FORM_strx1
-returns-then-form-lt-DW_FORM_strx1 c = list-low _ c.if-form-lt-DW_FORM_strx1.true c.if-form-eq-DW_FORM_rnglistx.false c.if-form-eq-DW_FORM_loclistx.false c.if-form-eq-DW_FORM_strx.false
+pub returns-in-26-2 : goal.returns-in-26-2
+returns-in-26-2 c = list-fixed _ (omega arith) (omega arith)
 
-pub returns-then-form-le-DW_FORM_strx4 : goal.returns-then-form-le-DW_FORM_strx4
-returns-then-form-le-DW_FORM_strx4 c = list-fixed _ c.if-form-lt-DW_FORM_strx1.false c.if-form-le-DW_FORM_strx4.true
+pub returns-in_default : goal.returns-in_default
+returns-in_default c = grind (arith, list-low)
 
-pub returns-then-form-eq-DW_FORM_GNU_str_index : goal.returns-then-form-eq-DW_FORM_GNU_str_index
-returns-then-form-eq-DW_FORM_GNU_str_index c = list-gnu _ c.if-form-eq-DW_FORM_GNU_str_index.true
-
-pub returns : goal.returns
-returns c = list-high _ c.if-form-le-DW_FORM_strx4.false c.if-form-eq-DW_FORM_GNU_str_index.false
+pub returns-in_default-2 : goal.returns-in_default-2
+returns-in_default-2 c = grind (arith, list-high)

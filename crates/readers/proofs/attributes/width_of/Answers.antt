@@ -1,12 +1,13 @@
 -- `width_of` meets its contract. Assumes nothing.
+use native.Mathlib.Omega.{arith}
 use Rattle.readers.proofs.ShortValues.{width-bytes, width-address, width-offset}
 use Rattle.readers.proofs.attributes.width_of.Goals as goal
 
-pub returns-then-token-le-BYTES8 : goal.returns-then-token-le-BYTES8
-returns-then-token-le-BYTES8 c = width-bytes _ _ c.if-token-le-BYTES8.true
+pub returns-in-0-to-8 : goal.returns-in-0-to-8
+returns-in-0-to-8 c = width-bytes _ _ (omega arith)
 
-pub returns-then-token-eq-ADDRESS : goal.returns-then-token-eq-ADDRESS
-returns-then-token-eq-ADDRESS c = width-address _ _ c.if-token-eq-ADDRESS.true
+pub returns-in-9 : goal.returns-in-9
+returns-in-9 c = width-address _ _ c.in-9.is
 
-pub returns : goal.returns
-returns c = width-offset _ _ c.if-token-le-BYTES8.false c.if-token-eq-ADDRESS.false
+pub returns-in_default : goal.returns-in_default
+returns-in_default c = width-offset _ _ (omega arith) (λ h. omega arith)

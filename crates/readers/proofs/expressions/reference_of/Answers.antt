@@ -1,20 +1,24 @@
+-- `reference_of` meets its contract: the rows that hold a reference. Assumes nothing.
+use mathlib.Core.Logic.{⊎_elim}
+use native.Mathlib.Omega.{arith}
 use Rattle.readers.proofs.OwnReferences.{early, entry, first-type, second_type, const-type, late}
 use Rattle.readers.proofs.expressions.reference_of.Goals as goal
 
-pub returns-then-row-lt-ROW_REFERENCE2 : goal.returns-then-row-lt-ROW_REFERENCE2
-returns-then-row-lt-ROW_REFERENCE2 c = early _ c.if-row-lt-ROW_REFERENCE2.true
+pub returns-in-12 : goal.returns-in-12
+returns-in-12 c = entry _ (omega arith) _ (omega arith) c.named.ensures
 
-pub returns-then-row-le-ROW_REFERENCE4 : goal.returns-then-row-le-ROW_REFERENCE4
-returns-then-row-le-ROW_REFERENCE4 c = entry _ c.if-row-lt-ROW_REFERENCE2.false _ c.if-row-le-ROW_REFERENCE4.true c.named.ensures
+pub returns-in-14 : goal.returns-in-14
+returns-in-14 c =
+    ⊎_elim
+    (λ e. first-type _ (omega arith) (omega arith) _ e c.named_type.ensures)
+    (λ e. const-type _ (omega arith) (omega arith) (λ h. omega arith) (omega arith) _ e c.named_type.ensures)
+    c.in-14.is
 
-pub returns-then-row-eq-ROW_TYPE : goal.returns-then-row-eq-ROW_TYPE
-returns-then-row-eq-ROW_TYPE c = first-type _ c.if-row-lt-ROW_REFERENCE2.false c.if-row-le-ROW_REFERENCE4.false _ c.if-row-eq-ROW_TYPE.true c.named_type.ensures
+pub returns-in-15 : goal.returns-in-15
+returns-in-15 c = grind (arith, second_type, c.named_type-in-15.ensures)
 
-pub returns-then-row-le-ROW_BYTES1_TYPE : goal.returns-then-row-le-ROW_BYTES1_TYPE
-returns-then-row-le-ROW_BYTES1_TYPE c = second_type _ c.if-row-lt-ROW_REFERENCE2.false c.if-row-le-ROW_REFERENCE4.false c.if-row-eq-ROW_TYPE.false _ c.if-row-le-ROW_BYTES1_TYPE.true c.named_type-then-row-le-ROW_BYTES1_TYPE.ensures
+pub returns-in_default : goal.returns-in_default
+returns-in_default c = grind (arith, early, late)
 
-pub returns-then-row-eq-ROW_TYPE_BLOCK1 : goal.returns-then-row-eq-ROW_TYPE_BLOCK1
-returns-then-row-eq-ROW_TYPE_BLOCK1 c = const-type _ c.if-row-lt-ROW_REFERENCE2.false c.if-row-le-ROW_REFERENCE4.false c.if-row-eq-ROW_TYPE.false c.if-row-le-ROW_BYTES1_TYPE.false _ c.if-row-eq-ROW_TYPE_BLOCK1.true c.named_type-then-row-eq-ROW_TYPE_BLOCK1.ensures
-
-pub returns : goal.returns
-returns c = late _ c.if-row-lt-ROW_REFERENCE2.false c.if-row-le-ROW_REFERENCE4.false c.if-row-eq-ROW_TYPE.false c.if-row-le-ROW_BYTES1_TYPE.false c.if-row-eq-ROW_TYPE_BLOCK1.false
+pub returns-in_default-2 : goal.returns-in_default-2
+returns-in_default-2 c = grind (arith, early, late)

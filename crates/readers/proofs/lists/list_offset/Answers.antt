@@ -2,7 +2,7 @@
 -- Assumes nothing.
 use mathlib.Core.Path.{sym, ◌∙◌}
 use native.Mathlib.Omega.{arith}
-use Rattle.readers.proofs.ListStarts.{start-past, within, beyond, unread, was_read, past, no_size, base-past}
+use Rattle.readers.proofs.ListStarts.{start-past, beyond, unread, was_read, past, no_size, base-past}
 use Rattle.readers.proofs.lists.list_offset.Goals as goal
 
 pub returns-then-base-len : goal.returns-then-base-len
@@ -13,12 +13,6 @@ returns-then-size-eq0 c = c.list_start.ensures ∙ sym (no_size _ _ _ _ c.if-siz
 
 pub returns-then-index-len : goal.returns-then-index-len
 returns-then-index-len c = sym (past _ _ _ _ (omega (arith, beyond _ _ _ c.if-index-len.true (omega arith))) (omega arith))
-
-pub overflow_mul-place : goal.overflow_mul-place
-overflow_mul-place c = omega (arith, within _ _ _ c.if-index-len.false)
-
-pub overflow_add-place : goal.overflow_add-place
-overflow_add-place c = omega (arith, within _ _ _ c.if-index-len.false)
 
 pub returns-in_err-offset : goal.returns-in_err-offset
 returns-in_err-offset c = c.from_residual.ensures ∙ sym (unread _ _ _ _ (sym c.offset.ensures ∙ c.in_err-offset.was))

@@ -4,9 +4,6 @@ use native.Mathlib.Omega.{arith}
 use Rattle.readers.proofs.Widths.{fixed-one, fixed-none}
 use Rattle.readers.proofs.cursor.Cursor.byte.Goals as goal
 
-pub overflow_cast-result : goal.overflow_cast-result
-overflow_cast-result c = omega (arith, c.type_inv.s c.args.self.at)
-
 pub returns-then-at-s : goal.returns-then-at-s
 returns-then-at-s c = λ big. sym (fixed-one big _ _ (omega arith))
 

@@ -1,12 +1,9 @@
 -- `Cursor::forms` meets its contract: whatever was passed, the answer from here on is the whole answer. Each number takes bytes, so what is left falls.
 -- Assumes nothing.
-use mathlib.Core.Path.{refl, sym, ◌∙◌}
+use mathlib.Core.Path.{sym, ◌∙◌}
 use native.Mathlib.Omega.{arith}
 use Rattle.readers.proofs.Lebs.{short-inside, forms-more, forms-last, forms-none}
 use Rattle.readers.proofs.cursor.Cursor.forms.Goals as goal
-
-pub loop-form-init : goal.loop-form-init
-loop-form-init c = refl
 
 pub returns-then-form-ne-DW_FORM_indirect : goal.returns-then-form-ne-DW_FORM_indirect
 returns-then-form-ne-DW_FORM_indirect c = forms-last _ _ _ _ (sym c.short.ensures ∙ c.in_ok-form.was) c.if-form-ne-DW_FORM_indirect.true ∙ sym c.loop-form.invariant

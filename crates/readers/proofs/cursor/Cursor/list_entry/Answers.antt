@@ -10,11 +10,11 @@ returns-then-at-s c = sym (entry-end _ _ _ _ c.if-at-s.true)
 pub returns-then-kind-eq-DW_RLE_end_of_list : goal.returns-then-kind-eq-DW_RLE_end_of_list
 returns-then-kind-eq-DW_RLE_end_of_list c = sym (entry_zero _ _ _ _ c.if-at-s.false c.if-kind-eq-DW_RLE_end_of_list.true)
 
-pub returns-then-row-eq-ROW_ULEB128_ULEB128 : goal.returns-then-row-eq-ROW_ULEB128_ULEB128
-returns-then-row-eq-ROW_ULEB128_ULEB128 c = entry-pair _ _ _ _ _ c.if-at-s.false c.if-kind-eq-DW_RLE_end_of_list.false c.list_row-row.ensures c.if-row-eq-ROW_ULEB128_ULEB128.true _ (c.two_numbers.ensures _)
+pub returns-in-11 : goal.returns-in-11
+returns-in-11 c = entry-pair _ _ _ _ _ c.if-at-s.false c.if-kind-eq-DW_RLE_end_of_list.false c.list_row-row.ensures c.in-11.is _ (c.two_numbers.ensures _)
 
-pub returns-then-row-eq-ROW_ULEB128_ULEB128_EXPRESSION : goal.returns-then-row-eq-ROW_ULEB128_ULEB128_EXPRESSION
-returns-then-row-eq-ROW_ULEB128_ULEB128_EXPRESSION c = entry-located _ _ _ _ _ c.if-at-s.false c.if-kind-eq-DW_RLE_end_of_list.false c.list_row-row.ensures c.if-row-eq-ROW_ULEB128_ULEB128_EXPRESSION.true _ (c.two_numbers-then-row-eq-ROW_ULEB128_ULEB128_EXPRESSION.ensures _)
+pub returns-in-25 : goal.returns-in-25
+returns-in-25 c = entry-located _ _ _ _ _ c.if-at-s.false c.if-kind-eq-DW_RLE_end_of_list.false c.list_row-row.ensures c.in-25.is _ (c.two_numbers-in-25.ensures _)
 
-pub returns : goal.returns
-returns c = c.entry_of.ensures ∙ entry_row _ _ _ _ _ c.if-at-s.false c.if-kind-eq-DW_RLE_end_of_list.false c.list_row-row.ensures _ c.row.ensures
+pub returns-in_default : goal.returns-in_default
+returns-in_default c = c.entry_of.ensures ∙ entry_row _ _ _ _ _ c.if-at-s.false c.if-kind-eq-DW_RLE_end_of_list.false c.list_row-row.ensures _ c.row.ensures

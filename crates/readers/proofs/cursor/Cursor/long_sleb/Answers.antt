@@ -4,17 +4,17 @@ use native.Mathlib.Omega.{arith}
 use Rattle.readers.proofs.Lebs.{whole, sleb-up, sleb-down, sleb-no, sleb-plus, sleb-minus, light, sleb-none}
 use Rattle.readers.proofs.cursor.Cursor.long_sleb.Goals as goal
 
-pub returns-then-high-eq0 : goal.returns-then-high-eq0
-returns-then-high-eq0 c = sleb-up _ _ _ _ _ _ ((whole _ _ _ _ _ _ c.type_inv.s _ c.groups.ensures c.in_ok-low.was)) c.if-weight.true c.if-high-eq0.true
+pub returns-in-0 : goal.returns-in-0
+returns-in-0 c = sleb-up _ _ _ _ _ _ ((whole _ _ _ _ _ _ c.type_inv.s _ c.groups.ensures c.in_ok-low.was)) c.if-weight.true c.in-0.is
 
 pub overflow_add-result : goal.overflow_add-result
 overflow_add-result c = omega (arith, ((whole _ _ _ _ _ _ c.type_inv.s _ c.groups.ensures c.in_ok-low.was)).small)
 
-pub returns-then-high-eq127 : goal.returns-then-high-eq127
-returns-then-high-eq127 c = sleb-down _ _ _ _ _ _ ((whole _ _ _ _ _ _ c.type_inv.s _ c.groups.ensures c.in_ok-low.was)) c.if-weight.true c.if-high-eq127.true
+pub returns-in-127 : goal.returns-in-127
+returns-in-127 c = sleb-down _ _ _ _ _ _ ((whole _ _ _ _ _ _ c.type_inv.s _ c.groups.ensures c.in_ok-low.was)) c.if-weight.true c.in-127.is
 
-pub returns-then-weight : goal.returns-then-weight
-returns-then-weight c = sleb-no _ _ _ _ _ _ ((whole _ _ _ _ _ _ c.type_inv.s _ c.groups.ensures c.in_ok-low.was)) c.if-weight.true c.if-high-eq0.false c.if-high-eq127.false
+pub returns-in_default : goal.returns-in_default
+returns-in_default c = sleb-no _ _ _ _ _ _ ((whole _ _ _ _ _ _ c.type_inv.s _ c.groups.ensures c.in_ok-low.was)) c.if-weight.true (λ h. omega arith) (λ h. omega arith)
 
 pub overflow_mul-weight : goal.overflow_mul-weight
 overflow_mul-weight c = omega (arith, (light _ _ _ _ _ _ ((whole _ _ _ _ _ _ c.type_inv.s _ c.groups.ensures c.in_ok-low.was)) c.if-weight.false).0)

@@ -1,9 +1,6 @@
-use mathlib.Core.Path.{refl, ◌∙◌}
+use mathlib.Core.Path.{◌∙◌}
 use Rattle.readers.proofs.Yields.{onward-end, onward-none, onward-entry, less-entry, less-next, onward-own, onward-pass}
 use Rattle.readers.proofs.cursor.Cursor.next_reference.Goals as goal
-
-pub loop-c-init : goal.loop-c-init
-loop-c-init c = refl
 
 pub returns-in_err-op : goal.returns-in_err-op
 returns-in_err-op c = c.from_residual.ensures ∙ onward-none _ _ _ _ c.loop-c.invariant c.loop-c-test.true _ c.operation.ensures c.in_err-op.was

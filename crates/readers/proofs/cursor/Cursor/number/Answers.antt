@@ -4,14 +4,14 @@ use Rattle.readers.proofs.Tokens.{number-fixed, number-address, number-offset, n
 use native.Mathlib.Omega.{arith}
 use Rattle.readers.proofs.cursor.Cursor.number.Goals as goal
 
-pub returns-then-token-le-BYTES8 : goal.returns-then-token-le-BYTES8
-returns-then-token-le-BYTES8 c = c.fixed.ensures ∙ sym (number-fixed _ _ _ _ c.if-token-le-BYTES8.true)
+pub returns-in-0-to-8 : goal.returns-in-0-to-8
+returns-in-0-to-8 c = c.fixed.ensures ∙ sym (number-fixed _ _ _ _ (omega arith))
 
-pub returns-then-token-eq-ADDRESS : goal.returns-then-token-eq-ADDRESS
-returns-then-token-eq-ADDRESS c = c.address.ensures ∙ sym (number-address _ _ _ _ c.if-token-eq-ADDRESS.true)
+pub returns-in-9 : goal.returns-in-9
+returns-in-9 c = c.address.ensures ∙ sym (number-address _ _ _ _ c.in-9.is)
 
-pub returns-then-token-eq-OFFSET : goal.returns-then-token-eq-OFFSET
-returns-then-token-eq-OFFSET c = c.offset.ensures ∙ sym (number-offset _ _ _ _ c.if-token-eq-OFFSET.true)
+pub returns-in-10 : goal.returns-in-10
+returns-in-10 c = c.offset.ensures ∙ sym (number-offset _ _ _ _ c.in-10.is)
 
-pub returns : goal.returns
-returns c = c.uleb.ensures ∙ sym (number-leb _ _ _ _ (omega arith))
+pub returns-in_default : goal.returns-in_default
+returns-in_default c = c.uleb.ensures ∙ sym (number-leb _ _ _ _ (omega arith))

@@ -1,7 +1,6 @@
 -- `Cursor::past_attribute` meets its contract: so many bytes on, past a string or a number, or to the end of the value
 -- that is read. Assumes nothing.
-use mathlib.Core.Path.{sym, ap, ◌∙◌}
-use Rattle.readers.specs.Entries.{attribute_end}
+use mathlib.Core.Path.{sym, ◌∙◌}
 use Rattle.readers.proofs.Values.{foreign-none}
 use Rattle.readers.proofs.ShortValues.{past-width, past-string, past-signed, past-uleb, past-exprloc, past-unread, exprloc-sibling}
 use Rattle.readers.proofs.cursor.Cursor.past_attribute.Goals as goal
@@ -26,6 +25,3 @@ returns-then-name-eq-DW_AT_sibling c = past-unread _ (exprloc-sibling _ _ _ _ _ 
 
 pub returns-then-form-eq-DW_FORM_exprloc : goal.returns-then-form-eq-DW_FORM_exprloc
 returns-then-form-eq-DW_FORM_exprloc c = c.past_field.ensures ∙ past-exprloc _ _ _ _ _ c.if-form-eq-DW_FORM_exprloc.true c.if-name-eq-DW_AT_sibling.false _ c.exprloc.ensures
-
-pub returns : goal.returns
-returns c = c.past_value.ensures ∙ ap attribute_end c.attribute.ensures

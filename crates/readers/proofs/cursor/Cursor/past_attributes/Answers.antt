@@ -1,12 +1,9 @@
 -- `Cursor::past_attributes` meets its contract. The invariant: past the specifications from here on is past them all. Assumes nothing.
 use Rattle.std.specs.Prelude.{Some}
-use mathlib.Core.Path.{ap, refl, sym, ◌∙◌}
+use mathlib.Core.Path.{ap, sym, ◌∙◌}
 use native.Mathlib.Omega.{arith}
 use Rattle.readers.proofs.Specs.{attribute-inside, past_more, past-last, past-bad}
 use Rattle.readers.proofs.cursor.Cursor.past_attributes.Goals as goal
-
-pub loop-a-init : goal.loop-a-init
-loop-a-init c = refl
 
 pub loop-a-smaller : goal.loop-a-smaller
 loop-a-smaller c = omega (arith, attribute-inside _ _ _ (sym c.long_spec.ensures ∙ (c.in_ok-a.was ∙ ap Some c.in-Attribute.is)))

@@ -7,9 +7,6 @@ use Rattle.readers.proofs.Specs.{attribute-inside}
 use Rattle.readers.proofs.Values.{values-past, values-stuck, values-last, values-bad}
 use Rattle.readers.proofs.cursor.Cursor.past_values.Goals as goal
 
-pub loop-a-init : goal.loop-a-init
-loop-a-init c = refl
-
 pub returns-in_err-past-in-Attribute : goal.returns-in_err-past-in-Attribute
 returns-in_err-past-in-Attribute c = c.from_residual-in_err-past-in-Attribute.ensures ∙ values-stuck _ _ _ _ _ _
     (sym c.attribute_spec.ensures ∙ (c.in_ok-a.was ∙ ap Some c.in-Attribute.is))

@@ -1,12 +1,9 @@
 -- `Cursor::search` meets its contract. The invariant: the search from here on finds what the whole one does. Assumes nothing.
 use Rattle.std.specs.Prelude.{Some}
-use mathlib.Core.Path.{ap, refl, sym, ◌∙◌}
+use mathlib.Core.Path.{ap, sym, ◌∙◌}
 use native.Mathlib.Omega.{arith}
 use Rattle.readers.proofs.Declarations.{declaration-ahead, search-hit, search-more, search-last, search-bad, search-end}
 use Rattle.readers.proofs.cursor.Cursor.search.Goals as goal
-
-pub loop-c-init : goal.loop-c-init
-loop-c-init c = refl
 
 pub returns-then-d-code : goal.returns-then-d-code
 returns-then-d-code c = search-hit _ _ _ _ _ _ c.loop-c-test.true (sym c.declaration.ensures ∙ (c.in_ok-d.was ∙ ap Some c.in-Declaration.is)) c.if-d-code.true ∙ sym c.loop-c.invariant

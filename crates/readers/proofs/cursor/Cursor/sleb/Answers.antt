@@ -3,9 +3,6 @@ use native.Mathlib.Omega.{arith}
 use Rattle.readers.proofs.Lebs.{sleb-one, sleb-one-minus}
 use Rattle.readers.proofs.cursor.Cursor.sleb.Goals as goal
 
-pub overflow_cast-b : goal.overflow_cast-b
-overflow_cast-b c = omega (arith, c.type_inv.s c.args.self.at)
-
 pub returns-then-b-lt64 : goal.returns-then-b-lt64
 returns-then-b-lt64 c = sleb-one _ _ c.if-at-s.true (omega arith) c.if-b-lt64.true
 
