@@ -18,7 +18,7 @@ const TAG_SIZE: usize = 2;
 fn is_treatment(k: u8) -> bool
     ensures { result ≡ is_treatment k }
 {
-    matches!(k, ALWAYS_ROOT | NEVER_ROOT)
+    k == ALWAYS_ROOT || k == NEVER_ROOT
 }
 
 // Whether each treatment is one.

@@ -251,7 +251,7 @@ fn visit(
     if top >= work.len() {
         return top;
     }
-    let i = EntryIndex(work[top] as u64);
+    let i = EntryIndex(u64::from(work[top]));
     if place(i) >= marks.len() {
         return top;
     }

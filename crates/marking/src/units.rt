@@ -73,11 +73,8 @@ fn fill_hints(offsets: &[u64], hints: &mut [u32], shift: u32) {
 
 // Where the hints say that an entry stands that starts at an offset, or a few places before.
 fn guess(offsets: &[u64], target: UnitOffset, hints: &[u32], shift: u32) -> usize {
-    let at = bucket(target, shift);
-    if at >= hints.len() {
-        return offsets.len();
-    }
-    let mut i = hints[at] as usize;
+    let hint = hints.get(bucket(target, shift));
+    let mut i = hint.map_or(offsets.len(), |hint| *hint as usize);
     if i >= offsets.len() {
         return i;
     }

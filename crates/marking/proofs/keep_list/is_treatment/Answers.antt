@@ -5,14 +5,10 @@ use Rattle.readers.specs.Choice.{◌or◌}
 use Rattle.marking.specs.KeepList.{is_treatment}
 use Rattle.marking.proofs.keep_list.is_treatment.Goals as goal
 
-pub returns-in-1 : goal.returns-in-1
+pub returns-then-k-eq-ALWAYS_ROOT : goal.returns-then-k-eq-ALWAYS_ROOT
 unfolding is_treatment ◌or◌
-returns-in-1 c = grind (arith, nat_tests)
+returns-then-k-eq-ALWAYS_ROOT c = grind (arith, nat_tests)
 
-pub returns-in_default : goal.returns-in_default
+pub returns-else-k-eq-ALWAYS_ROOT : goal.returns-else-k-eq-ALWAYS_ROOT
 unfolding is_treatment ◌or◌
-returns-in_default c = grind (arith, nat_tests)
-
-pub returns-in_default-2 : goal.returns-in_default-2
-unfolding is_treatment ◌or◌
-returns-in_default-2 c = grind (arith, nat_tests)
+returns-else-k-eq-ALWAYS_ROOT c = grind (arith, nat_tests)

@@ -3,9 +3,6 @@ use native.Mathlib.Omega.{arith}
 use Rattle.marking.proofs.Spreads.{parents-fit-still, spread-on, by-parents}
 use Rattle.marking.proofs.spread.visit.Goals as goal
 
-pub overflow_cast-i : goal.overflow_cast-i
-overflow_cast-i c = omega (arith, c.type_inv.work c.args.top)
-
 pub lift-requires : goal.lift-requires
 lift-requires c = record {
   parents_fit = search parents-fit-still;
