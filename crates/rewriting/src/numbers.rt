@@ -154,6 +154,7 @@ pub fn put_big_endian(s: &mut [u8], at: usize, width: usize, value: u64)
     if at > s.len() || width > s.len() - at {
         return;
     }
+    // No to_be_bytes: a number is written where it goes, and no array is made.
     let mut rest = value;
     for i in (0..width).rev() {
         s[at + i] = (rest % 256) as u8;
