@@ -3,26 +3,19 @@
 #![tactic(auto)]
 
 use printing::answers::hex;
-use printing::text::{number, text};
 use rewriting::numbers::Padded;
 use std::io;
 use std::io::{BufWriter, Write};
 
 // A number in so many bytes at the start of a slice.
 fn padded(to: &mut impl Write, value: u64, width: usize, out: &mut [u8]) -> io::Result<()> {
-    number(to, b"padded ", value)?;
-    number(to, b" in ", width as u64)?;
-    number(to, b" of ", out.len() as u64)?;
+    write!(to, "padded {value} in {width} of {}", out.len())?;
     match rewriting::numbers::write_uleb128_padded(value, width, out) {
-        Padded::Written => {
-            text(to, b" written")?;
-        }
-        Padded::Refused(n) => {
-            number(to, b" refused ", n as u64)?;
-        }
+        Padded::Written => write!(to, " written")?,
+        Padded::Refused(n) => write!(to, " refused {n}")?,
     }
-    hex(to, b" ", out, out.len())?;
-    text(to, b"\n")
+    hex(to, "", out)?;
+    writeln!(to)
 }
 
 fn narrow(to: &mut impl Write) -> io::Result<()> {
@@ -62,55 +55,50 @@ fn filled(to: &mut impl Write, value: u64, width: usize) -> io::Result<()> {
 
 // Each width.
 fn widths(to: &mut impl Write) -> io::Result<()> {
-    filled(to, 1, 0)?;
-    filled(to, 1, 1)?;
-    filled(to, 1, 2)?;
-    filled(to, 1, 3)?;
-    filled(to, 1, 4)?;
-    filled(to, 1, 5)?;
-    filled(to, 1, 6)?;
-    filled(to, 1, 7)?;
-    filled(to, 1, 8)?;
-    filled(to, 1, 9)?;
-    filled(to, 1, 10)?;
-    filled(to, 1, 11)?;
-    filled(to, 1, 12)?;
-    filled(to, 1, 13)?;
+    for width in 0..14 {
+        filled(to, 1, width)?;
+    }
     filled(to, 1, 0xffff_ffff_ffff_ffff)
 }
 
 // Below and at each power of 128, and 2^64 - 1: its own width, and one byte less; the last also in one byte more.
 fn borders(to: &mut impl Write) -> io::Result<()> {
-    filled(to, 0x7f, 1)?;
-    filled(to, 0x80, 1)?;
-    filled(to, 0x80, 2)?;
-    filled(to, 0x3fff, 2)?;
-    filled(to, 0x4000, 2)?;
-    filled(to, 0x4000, 3)?;
-    filled(to, 0x1f_ffff, 3)?;
-    filled(to, 0x20_0000, 3)?;
-    filled(to, 0x20_0000, 4)?;
-    filled(to, 0xfff_ffff, 4)?;
-    filled(to, 0x1000_0000, 4)?;
-    filled(to, 0x1000_0000, 5)?;
-    filled(to, 0x7_ffff_ffff, 5)?;
-    filled(to, 0x8_0000_0000, 5)?;
-    filled(to, 0x8_0000_0000, 6)?;
-    filled(to, 0x3ff_ffff_ffff, 6)?;
-    filled(to, 0x400_0000_0000, 6)?;
-    filled(to, 0x400_0000_0000, 7)?;
-    filled(to, 0x1_ffff_ffff_ffff, 7)?;
-    filled(to, 0x2_0000_0000_0000, 7)?;
-    filled(to, 0x2_0000_0000_0000, 8)?;
-    filled(to, 0xff_ffff_ffff_ffff, 8)?;
-    filled(to, 0x100_0000_0000_0000, 8)?;
-    filled(to, 0x100_0000_0000_0000, 9)?;
-    filled(to, 0x7fff_ffff_ffff_ffff, 9)?;
-    filled(to, 0x8000_0000_0000_0000, 9)?;
-    filled(to, 0x8000_0000_0000_0000, 10)?;
-    filled(to, 0xffff_ffff_ffff_ffff, 9)?;
-    filled(to, 0xffff_ffff_ffff_ffff, 10)?;
-    filled(to, 0xffff_ffff_ffff_ffff, 11)
+    let cases = [
+        (0x7f, 1),
+        (0x80, 1),
+        (0x80, 2),
+        (0x3fff, 2),
+        (0x4000, 2),
+        (0x4000, 3),
+        (0x1f_ffff, 3),
+        (0x20_0000, 3),
+        (0x20_0000, 4),
+        (0xfff_ffff, 4),
+        (0x1000_0000, 4),
+        (0x1000_0000, 5),
+        (0x7_ffff_ffff, 5),
+        (0x8_0000_0000, 5),
+        (0x8_0000_0000, 6),
+        (0x3ff_ffff_ffff, 6),
+        (0x400_0000_0000, 6),
+        (0x400_0000_0000, 7),
+        (0x1_ffff_ffff_ffff, 7),
+        (0x2_0000_0000_0000, 7),
+        (0x2_0000_0000_0000, 8),
+        (0xff_ffff_ffff_ffff, 8),
+        (0x100_0000_0000_0000, 8),
+        (0x100_0000_0000_0000, 9),
+        (0x7fff_ffff_ffff_ffff, 9),
+        (0x8000_0000_0000_0000, 9),
+        (0x8000_0000_0000_0000, 10),
+        (0xffff_ffff_ffff_ffff, 9),
+        (0xffff_ffff_ffff_ffff, 10),
+        (0xffff_ffff_ffff_ffff, 11),
+    ];
+    for (value, width) in cases {
+        filled(to, value, width)?;
+    }
+    Ok(())
 }
 
 // Slices that are one byte short, exactly full and one byte longer.
@@ -132,7 +120,7 @@ fn slices(to: &mut impl Write) -> io::Result<()> {
 fn main(rt: HostRuntime) -> io::Result<()> {
     let mut out = BufWriter::new(rt.alloc(), io::writer(&rt))?;
     printing::arguments(&rt, &mut out)?;
-    text(&mut out, b"# padded numbers\n")?;
+    writeln!(out, "# padded numbers")?;
     narrow(&mut out)?;
     wide(&mut out)?;
     widths(&mut out)?;
