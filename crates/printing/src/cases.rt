@@ -262,8 +262,7 @@ fn word(settings: Settings<'_>, a: &Arrays) -> &'static str {
     }
 }
 
-// Prints the case that stands first, after a line with its number. Answers what stands behind it; None where there is no
-// case.
+// Prints the case that stands first, after a line with its number. Answers what stands behind it, if there is a case.
 fn first_case<'a>(to: &mut impl Write, s: &'a [u8], n: u64) -> io::Result<Option<&'a [u8]>> {
     let Some((settings, behind)) = s.split_at_checked(SETTINGS) else {
         return Ok(None);

@@ -1,4 +1,5 @@
 // What the readers read of a bundle's unit: header, entries with their attributes, references of expressions, lists.
+use crate::answers::refused;
 use bundle::BundleRead;
 use readers::abbreviations::{AttributeSpec, Checked, SpecStep};
 use readers::attributes::{Attribute, AttributeRead};
@@ -48,10 +49,6 @@ struct Values {
 // More than a list, an entry or a unit of a bundle has steps.
 const MOST_TURNS: usize = 65537;
 
-fn refused(to: &mut impl Write, n: u8) -> io::Result<()> {
-    writeln!(to, "refused {n}")
-}
-
 // ---- values
 
 // Whether the value of a form is a run of bytes, and not a number.
@@ -99,6 +96,14 @@ fn expression(to: &mut impl Write, s: &[u8], e: Encoding) -> io::Result<()> {
 
 // ---- lists
 
+// The section of location lists or of range lists.
+#[derive(Clone, Copy)]
+struct ListSection<'a> {
+    bytes: &'a [u8],
+    location: bool,
+    encoding: Encoding,
+}
+
 // Whether an entry of a location list has an expression: base addresses have none.
 fn has_expression(kind: u8) -> bool {
     !matches!(kind, 1 | 6)
@@ -113,22 +118,13 @@ fn location_field(entry: ListEntry) -> Field {
 }
 
 // An entry's line, and of a location list's entry the expression.
-fn list_lines(
-    to: &mut impl Write,
-    s: &[u8],
-    entry: ListEntry,
-    location: bool,
-    e: Encoding,
-) -> io::Result<()> {
-    write!(
-        to,
-        "  kind {} {} {}",
-        entry.kind, entry.first.value, entry.second.value
-    )?;
-    if location && has_expression(entry.kind) {
+fn list_lines(to: &mut impl Write, s: ListSection<'_>, entry: ListEntry) -> io::Result<()> {
+    let (kind, first, second) = (entry.kind, entry.first.value, entry.second.value);
+    write!(to, "  kind {kind} {first} {second}")?;
+    if s.location && has_expression(kind) {
         let f = location_field(entry);
         writeln!(to, " bytes {} to {}", f.start, f.end)?;
-        return expression(to, f.expression(s), e);
+        return expression(to, f.expression(s.bytes), s.encoding);
     }
     writeln!(to)
 }
@@ -148,15 +144,14 @@ fn list_refused(to: &mut impl Write) -> io::Result<Option<Cursor>> {
 
 // One pair of a range list of version 4; answers where the next one is, if the list goes on. A begin of all ones makes
 // its end the base of the pairs after it.
-fn pair_step(to: &mut impl Write, s: &[u8], c: Cursor, e: Encoding) -> io::Result<Option<Cursor>> {
-    if c.at >= s.len() {
+fn pair_step(to: &mut impl Write, s: ListSection<'_>, c: Cursor) -> io::Result<Option<Cursor>> {
+    if c.at >= s.bytes.len() {
         return ended(to);
     }
-    let OperandsRead::Read(r) = c.row(s, ROW_ADDRESS_ADDRESS, e) else {
+    let OperandsRead::Read(r) = c.row(s.bytes, ROW_ADDRESS_ADDRESS, s.encoding) else {
         return list_refused(to);
     };
-    let begin = r.first.value;
-    let end = r.second.value;
+    let (begin, end) = (r.first.value, r.second.value);
     if begin == 0 && end == 0 {
         return ended(to);
     }
@@ -165,19 +160,13 @@ fn pair_step(to: &mut impl Write, s: &[u8], c: Cursor, e: Encoding) -> io::Resul
 }
 
 // One entry of a list; answers where the next one is, if the list goes on. A range list of version 4 has pairs.
-fn list_step(
-    to: &mut impl Write,
-    s: &[u8],
-    c: Cursor,
-    location: bool,
-    e: Encoding,
-) -> io::Result<Option<Cursor>> {
-    if !location && e.version == 4 {
-        return pair_step(to, s, c, e);
+fn list_step(to: &mut impl Write, s: ListSection<'_>, c: Cursor) -> io::Result<Option<Cursor>> {
+    if !s.location && s.encoding.version == 4 {
+        return pair_step(to, s, c);
     }
-    match c.list_entry(s, location, e) {
+    match c.list_entry(s.bytes, s.location, s.encoding) {
         ListStep::Entry(entry) => {
-            list_lines(to, s, entry, location, e)?;
+            list_lines(to, s, entry)?;
             Ok(Some(entry.next))
         }
         ListStep::End => ended(to),
@@ -185,20 +174,14 @@ fn list_step(
     }
 }
 
-fn list(
-    to: &mut impl Write,
-    s: &[u8],
-    start: ListOffset,
-    location: bool,
-    e: Encoding,
-) -> io::Result<()> {
+fn list(to: &mut impl Write, s: ListSection<'_>, start: ListOffset) -> io::Result<()> {
     let ListOffset::At(first) = start else {
         return writeln!(to, "  list unresolved");
     };
     writeln!(to, "  list at {}", first.at)?;
     let mut c = first;
     for _ in 0..MOST_TURNS {
-        let Some(next) = list_step(to, s, c, location, e)? else {
+        let Some(next) = list_step(to, s, c)? else {
             return Ok(());
         };
         c = next;
@@ -227,26 +210,35 @@ fn lists(
     form: u64,
     v: u64,
 ) -> io::Result<()> {
-    let e = u.header.encoding;
-    let (location, start) = match form {
+    let encoding = u.header.encoding;
+    let ranges = ListSection {
+        bytes: u.ranges,
+        location: false,
+        encoding,
+    };
+    let locations = ListSection {
+        bytes: u.locations,
+        location: true,
+        encoding,
+    };
+    let (section, start) = match form {
         DW_FORM_rnglistx => (
-            false,
-            readers::lists::list_offset(u.ranges, p.range_base, v, e),
+            ranges,
+            readers::lists::list_offset(u.ranges, p.range_base, v, encoding),
         ),
         DW_FORM_loclistx => (
-            true,
-            readers::lists::list_offset(u.locations, p.location_base, v, e),
+            locations,
+            readers::lists::list_offset(u.locations, p.location_base, v, encoding),
         ),
         DW_FORM_sec_offset if names_ranges(name) => {
-            (false, readers::lists::list_start(u.ranges, v))
+            (ranges, readers::lists::list_start(u.ranges, v))
         }
         DW_FORM_sec_offset if names_locations(name) => {
-            (true, readers::lists::list_start(u.locations, v))
+            (locations, readers::lists::list_start(u.locations, v))
         }
         _ => return Ok(()),
     };
-    let section = if location { u.locations } else { u.ranges };
-    list(to, section, start, location, e)
+    list(to, section, start)
 }
 
 // ---- attributes
@@ -410,8 +402,8 @@ fn header_line(to: &mut impl Write, h: UnitHeader) -> io::Result<()> {
     writeln!(to, "first {} end {}", h.first.0, h.end)
 }
 
-// Prints what a bundle holds, by the byte order of its unit; `bundle` where it is none, `refused` and a number where its
-// unit can't be read.
+// Prints what a bundle holds, by the byte order of its unit; `bundle` where it is none, `refused` and a number where
+// its unit can't be read.
 pub fn dump(to: &mut impl Write, s: &[u8], big_endian: bool) -> io::Result<()> {
     let BundleRead::Read(b) = bundle::read_bundle(s) else {
         return writeln!(to, "bundle");

@@ -132,6 +132,7 @@ fn list_all<W: Write, F: Fn(&mut W, &[u8]) -> io::Result<()>>(
     requires { F.IsAlwaysCallable each }
 {
     let mut rest = s;
+    // No for: each bundle says where the next one starts.
     while !rest.is_empty() {
         writeln!(to, "-- {}", s.len() - rest.len())?;
         let (first, behind) = rest.split_at(size(rest));

@@ -18,39 +18,42 @@ fn padded(to: &mut impl Write, value: u64, width: usize, out: &mut [u8]) -> io::
     writeln!(to)
 }
 
+// Numbers, each in so many bytes, at the start of the same slice.
+fn each(to: &mut impl Write, out: &mut [u8], cases: &[(u64, usize)]) -> io::Result<()> {
+    for (value, width) in cases {
+        padded(to, *value, *width, out)?;
+    }
+    Ok(())
+}
+
 fn narrow(to: &mut impl Write) -> io::Result<()> {
-    let mut none = [0xa5u8; 0];
-    let mut one = [0xa5u8; 1];
-    let mut three = [0xa5u8; 3];
-    padded(to, 0, 1, &mut one)?;
-    padded(to, 16, 2, &mut three)?;
-    padded(to, 127, 1, &mut three)?;
-    padded(to, 128, 1, &mut three)?;
-    padded(to, 128, 2, &mut three)?;
-    padded(to, 0, 0, &mut three)?;
-    padded(to, 0, 4, &mut three)?;
-    padded(to, 0, 3, &mut three)?;
-    padded(to, 0, 1, &mut none)?;
-    padded(to, 0, 0, &mut none)
+    let three = [
+        (16, 2),
+        (127, 1),
+        (128, 1),
+        (128, 2),
+        (0, 0),
+        (0, 4),
+        (0, 3),
+    ];
+    each(to, &mut [0xa5; 1], &[(0, 1)])?;
+    each(to, &mut [0xa5; 3], &three)?;
+    each(to, &mut [0xa5; 0], &[(0, 1), (0, 0)])
 }
 
 fn wide(to: &mut impl Write) -> io::Result<()> {
-    let mut nine = [0xa5u8; 9];
-    let mut ten = [0xa5u8; 10];
-    let mut more = [0xa5u8; 12];
-    padded(to, 1, 10, &mut more)?;
-    padded(to, 1, 11, &mut more)?;
-    padded(to, 0xffff_ffff_ffff_ffff, 10, &mut ten)?;
-    padded(to, 0xffff_ffff_ffff_ffff, 9, &mut ten)?;
-    padded(to, 0x8000_0000_0000_0000, 10, &mut more)?;
-    padded(to, 0x7fff_ffff_ffff_ffff, 9, &mut nine)?;
-    padded(to, 0x7fff_ffff_ffff_ffff, 10, &mut nine)
+    let most = 0xffff_ffff_ffff_ffff;
+    let mut more = [0xa5; 12];
+    each(to, &mut more, &[(1, 10), (1, 11)])?;
+    each(to, &mut [0xa5; 10], &[(most, 10), (most, 9)])?;
+    each(to, &mut more, &[(0x8000_0000_0000_0000, 10)])?;
+    let below = 0x7fff_ffff_ffff_ffff;
+    each(to, &mut [0xa5; 9], &[(below, 9), (below, 10)])
 }
 
 // A number over twelve bytes that are not zeros.
 fn filled(to: &mut impl Write, value: u64, width: usize) -> io::Result<()> {
-    let mut out = [0xa5u8; 12];
-    padded(to, value, width, &mut out)
+    padded(to, value, width, &mut [0xa5; 12])
 }
 
 // Each width.
@@ -103,18 +106,12 @@ fn borders(to: &mut impl Write) -> io::Result<()> {
 
 // Slices that are one byte short, exactly full and one byte longer.
 fn slices(to: &mut impl Write) -> io::Result<()> {
-    let mut one = [0xa5u8; 1];
-    let mut two = [0xa5u8; 2];
-    let mut three = [0xa5u8; 3];
-    padded(to, 300, 2, &mut one)?;
-    padded(to, 300, 2, &mut two)?;
-    padded(to, 300, 2, &mut three)?;
-    let mut nine = [0xa5u8; 9];
-    let mut ten = [0xa5u8; 10];
-    let mut eleven = [0xa5u8; 11];
-    padded(to, 0, 10, &mut nine)?;
-    padded(to, 0, 10, &mut ten)?;
-    padded(to, 0, 10, &mut eleven)
+    padded(to, 300, 2, &mut [0xa5; 1])?;
+    padded(to, 300, 2, &mut [0xa5; 2])?;
+    padded(to, 300, 2, &mut [0xa5; 3])?;
+    padded(to, 0, 10, &mut [0xa5; 9])?;
+    padded(to, 0, 10, &mut [0xa5; 10])?;
+    padded(to, 0, 10, &mut [0xa5; 11])
 }
 
 fn main(rt: HostRuntime) -> io::Result<()> {
