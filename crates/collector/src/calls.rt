@@ -1,4 +1,5 @@
 // The calls that crates/collector_c exports to hosts in C, and that laws speak of.
+// No structs and no enums here: include/collector.h has each slice and each number as a parameter of its own.
 ghost use Rattle.std.specs.Prelude.{◌≡◌, length};
 ghost use Rattle.readers.specs.Choice.{zeros};
 ghost use Rattle.rewriting.specs.Outputs.{room_of, answer_for, map_for, list_for, output_for, ranges_in, locations_in, strings_in};

@@ -45,6 +45,7 @@ pub(crate) fn is_full(answer: u64) -> bool
 }
 
 // With tables of so many entries and references, and an index of so many declarations.
+// No struct for the slices that are written: each contract would have to say that their lengths stay.
 pub(crate) fn collect_in<
     const ENTRIES: usize,
     const TWICE_ENTRIES: usize,
