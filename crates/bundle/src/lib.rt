@@ -40,33 +40,21 @@ fn section(s: &[u8], at: usize) -> Option<Field>
 fn version(s: &[u8]) -> u8
     ensures { result ≡ version_of s.now }
 {
-    if s.len() < 5 {
-        return 0;
-    }
-    s[4]
+    s.get(4).copied().unwrap_or(0)
 }
 
 // Whether the length of the rest and the version byte are right.
 fn frame(s: &[u8]) -> bool
     ensures { result ≡ frame_of s.now }
 {
-    if s.len() > MOST {
+    if s.len() > MOST || s.len() < 5 {
         return false;
     }
     let Some((length, _)) = (Cursor { at: 0 }).fixed(s, 4, true) else {
         return false;
     };
-    if s.len() < 5 {
-        return false;
-    }
-    if length != ((s.len() - 4) as u64) {
-        return false;
-    }
     let v = version(s);
-    if v == 1 {
-        return true;
-    }
-    v == 2
+    length == (s.len() - 4) as u64 && (v == 1 || v == 2)
 }
 
 // The last section, .debug_ranges, which version 2 has; in version 1 it is empty.

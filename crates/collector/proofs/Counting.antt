@@ -73,7 +73,7 @@ same-zeros s₀ s₁ z =
     (l, z ∙ ap (λ (n : ℕ). zeros n) (sym l))
 
 module _ (answer : Answer) (c : Counts) (s₀ s₁ s₂ : List ℕ) (k : ℕ) where
-  pub give-untouched : answer ≡ Ok (Ok (Untouched c)) → s₁ ≡ zeros (length s₀) → k ≡ pick (is_uncounted (length s₁)) 258 256 → (s₁ ≡ zeros (length s₁) → s₂ ≡ accepted_counts (length s₁) c)
+  pub give-untouched : answer ≡ Ok (Untouched c) → s₁ ≡ zeros (length s₀) → k ≡ pick (is_uncounted (length s₁)) 258 256 → (s₁ ≡ zeros (length s₁) → s₂ ≡ accepted_counts (length s₁) c)
       → (k ≡ number_for (length s₀) answer) × (s₂ ≡ counts_for (length s₀) answer)
   unfolding number_for counts_for
   give-untouched e z f g =
@@ -82,7 +82,7 @@ module _ (answer : Answer) (c : Counts) (s₀ s₁ s₂ : List ℕ) (k : ℕ) wh
         g l.1 ∙ ap (λ (n : ℕ). accepted_counts n c) l.0 ∙ ap (counts_for (length s₀)) (sym e),
       )
 
-  pub give-rewritten : answer ≡ Ok (Ok (Rewritten c)) → s₁ ≡ zeros (length s₀) → k ≡ pick (is_uncounted (length s₁)) 259 257 → (s₁ ≡ zeros (length s₁) → s₂ ≡ accepted_counts (length s₁) c)
+  pub give-rewritten : answer ≡ Ok (Rewritten c) → s₁ ≡ zeros (length s₀) → k ≡ pick (is_uncounted (length s₁)) 259 257 → (s₁ ≡ zeros (length s₁) → s₂ ≡ accepted_counts (length s₁) c)
       → (k ≡ number_for (length s₀) answer) × (s₂ ≡ counts_for (length s₀) answer)
   unfolding number_for counts_for
   give-rewritten e z f g =

@@ -42,8 +42,8 @@ is_uncounted n = ltb n 59
 -- the number of an answer whose counts have n bytes of room: a refusal's own; else 256 untouched, 257 rewritten, and 2
 -- more where the counts have no room
 unfoldable pub number_for : ℕ → Answer → ℕ
-number_for n (Ok (Ok (Untouched c))) = pick (is_uncounted n) 258 256
-number_for n (Ok (Ok (Rewritten c))) = pick (is_uncounted n) 259 257
+number_for n (Ok (Untouched c)) = pick (is_uncounted n) 258 256
+number_for n (Ok (Rewritten c)) = pick (is_uncounted n) 259 257
 number_for n (Err k) = k
 
 -- the bytes of the counts: zeros after a refusal, and where they have no room
@@ -51,8 +51,8 @@ unfoldable pub accepted_counts : ℕ → Counts → List ℕ
 accepted_counts n c = pick (is_uncounted n) (zeros n) (pad_to n (count_bytes c))
 
 unfoldable pub counts_for : ℕ → Answer → List ℕ
-counts_for n (Ok (Ok (Untouched c))) = accepted_counts n c
-counts_for n (Ok (Ok (Rewritten c))) = accepted_counts n c
+counts_for n (Ok (Untouched c)) = accepted_counts n c
+counts_for n (Ok (Rewritten c)) = accepted_counts n c
 counts_for n (Err k) = zeros n
 
 -- a number as a yes or no: 0 for no, any other for yes

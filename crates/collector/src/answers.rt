@@ -44,17 +44,12 @@ fn put_run(numbers: &[u64], width: usize, at: usize, counts: &mut [u8])
         → counts.new ≡ put counts.old at (run_bytes width numbers.now) }
 {
     let mut to = at;
-    let mut i: usize = 0;
-    while i < numbers.len() {
-        if to > counts.len() {
+    for number in numbers {
+        if to > counts.len() || width > counts.len() - to {
             return;
         }
-        if width > counts.len() - to {
-            return;
-        }
-        put_big_endian(counts, to, width, numbers[i]);
+        put_big_endian(counts, to, width, *number);
         to += width;
-        i += 1;
     }
 }
 
@@ -63,19 +58,20 @@ fn put_counts(c: Counts, counts: &mut [u8])
     ensures { 59 ≤ length counts.old → counts.old ≡ zeros (length counts.old)
         → counts.new ≡ pad_to (length counts.old) (count_bytes c) }
 {
-    let ranges = c.ranges;
-    let locations = c.locations;
-    let strings = c.strings;
     let numbers = [
         c.entries as u64,
         c.kept as u64,
         c.places as u64,
         c.bytes as u64,
-        count_of(ranges),
-        count_of(locations),
-        count_of(strings),
+        count_of(c.ranges),
+        count_of(c.locations),
+        count_of(c.strings),
     ];
-    let present = [presence(ranges), presence(locations), presence(strings)];
+    let present = [
+        presence(c.ranges),
+        presence(c.locations),
+        presence(c.strings),
+    ];
     put_run(&numbers, 8, 0, counts);
     put_run(&present, 1, 56, counts);
 }
@@ -100,8 +96,10 @@ pub(crate) fn give(answer: Result<Collected, u8>, counts: &mut [u8]) -> u64
 {
     clear_bytes(counts);
     match answer {
-        Ok(Collected::Untouched(c)) => accepted(UNTOUCHED, UNTOUCHED + 2, c, counts),
-        Ok(Collected::Rewritten(c)) => accepted(REWRITTEN, REWRITTEN + 2, c, counts),
-        Err(n) => n as u64,
+        Ok(collected) => match collected {
+            Collected::Untouched(c) => accepted(UNTOUCHED, UNTOUCHED + 2, c, counts),
+            Collected::Rewritten(c) => accepted(REWRITTEN, REWRITTEN + 2, c, counts),
+        },
+        Err(n) => u64::from(n),
     }
 }

@@ -1,11 +1,12 @@
 // The calls that crates/collector_c exports to hosts in C, and that laws speak of.
+// No structs and no enums here: include/collector.h has each slice and each number as a parameter of its own.
 ghost use Rattle.std.specs.Prelude.{◌≡◌, length};
 ghost use Rattle.readers.specs.Choice.{zeros};
 ghost use Rattle.rewriting.specs.Outputs.{room_of, answer_for, map_for, list_for, output_for, ranges_in, locations_in, strings_in};
 ghost use Rattle.collector.specs.Call.{number_for, counts_for, collected_of, own_room};
 
 use crate::answers::give;
-use crate::own_tables::{collect_64, collect_longer, is_full, is_within};
+use crate::own_tables::{Inputs, collect_in, collect_longer, is_full};
 use marking::setting::Setting;
 use rewriting::collect::collect;
 
@@ -132,20 +133,23 @@ pub fn collector_collect<'a>(
         × (string_list.new ≡ list_for strings_in (length string_list.old) answer)
         × (out.new ≡ output_for (length out.old) answer) }
 {
-    if !is_within(section, abbreviations, 448, 640) {
-        return collect_longer(
-            section,
-            abbreviations,
-            locations,
-            ranges,
-            addresses,
-            debug_ranges,
-            tags,
-            treatments,
-            ranges_base,
-            type_units,
-            big_endian,
-            fixed_addresses,
+    let inputs = Inputs {
+        section,
+        abbreviations,
+        locations,
+        ranges,
+        addresses,
+        debug_ranges,
+        tags,
+        treatments,
+        ranges_base,
+        type_units,
+        big_endian,
+        fixed_addresses,
+    };
+    if inputs.is_within(448, 640) {
+        let answer = collect_in::<64, 128, 128, 256, 128>(
+            inputs,
             map,
             range_list,
             location_list,
@@ -153,43 +157,12 @@ pub fn collector_collect<'a>(
             out,
             counts,
         );
-    }
-    let answer = collect_64(
-        section,
-        abbreviations,
-        locations,
-        ranges,
-        addresses,
-        debug_ranges,
-        tags,
-        treatments,
-        ranges_base,
-        type_units,
-        big_endian,
-        fixed_addresses,
-        map,
-        range_list,
-        location_list,
-        string_list,
-        out,
-        counts,
-    );
-    if !is_full(answer) {
-        return answer;
+        if !is_full(answer) {
+            return answer;
+        }
     }
     collect_longer(
-        section,
-        abbreviations,
-        locations,
-        ranges,
-        addresses,
-        debug_ranges,
-        tags,
-        treatments,
-        ranges_base,
-        type_units,
-        big_endian,
-        fixed_addresses,
+        inputs,
         map,
         range_list,
         location_list,

@@ -1,53 +1,59 @@
 // The call with tables of its own, by tiers: shorter tables take less time to clear.
-ghost use Rattle.std.specs.Prelude.{◌≡◌, false, length};
-ghost use Rattle.collector.specs.Call.{collected_of, own_room};
-ghost use Rattle.collector.specs.Inner.Tiers.{Left, is_full};
+ghost use Rattle.std.specs.Prelude.{◌≡◌, ◌*◌, ◌≤◌, length};
+ghost use Rattle.rewriting.specs.Outputs.{room_of};
+ghost use Rattle.collector.specs.Call.{own_room};
+ghost use Rattle.collector.specs.Inner.Tiers.{Left, is_full, made_of};
 
 use crate::calls::collector_collect_lent;
 
-// "Entry table full", and the number of a tier that is not tried.
+// "Entry table full" and "reference table full".
 const FULL: u64 = 10;
 
 const FULL_REFERENCES: u64 = 11;
+
+// What a call is given but for the slices that it writes.
+#[derive(Clone, Copy)]
+pub(crate) struct Inputs<'a> {
+    pub(crate) section: &'a [u8],
+    pub(crate) abbreviations: &'a [u8],
+    pub(crate) locations: &'a [u8],
+    pub(crate) ranges: &'a [u8],
+    pub(crate) addresses: &'a [u8],
+    pub(crate) debug_ranges: &'a [u8],
+    pub(crate) tags: &'a [u8],
+    pub(crate) treatments: &'a [u8],
+    pub(crate) ranges_base: u64,
+    pub(crate) type_units: u64,
+    pub(crate) big_endian: u64,
+    pub(crate) fixed_addresses: u64,
+}
+
+impl Inputs<'_> {
+    // Whether the unit is likely to have room in tables that are made for a section of so many bytes, seven for each
+    // entry (compilers' units have no less), and for abbreviations of so many, five for each declaration (none takes
+    // less).
+    pub(crate) fn is_within(self, most: usize, most_abbreviations: usize) -> bool {
+        self.section.len() <= most && self.abbreviations.len() <= most_abbreviations
+    }
+}
 
 // Whether an answer is that a table is full.
 pub(crate) fn is_full(answer: u64) -> bool
     ensures { result ≡ is_full answer }
 {
-    if answer == FULL {
-        return true;
-    }
-    answer == FULL_REFERENCES
+    answer == FULL || answer == FULL_REFERENCES
 }
 
-// Whether a unit is likely to have room in tables that are made for a section of so many bytes, seven for each entry
-// (compilers' units have no less), and for abbreviations of so many, five for each declaration (none takes less).
-pub(crate) fn is_within(
-    section: &[u8],
-    abbreviations: &[u8],
-    most: usize,
-    most_abbreviations: usize,
-) -> bool {
-    if section.len() > most {
-        return false;
-    }
-    abbreviations.len() <= most_abbreviations
-}
-
-// With tables of 64 entries and 128 references, and an index of 128 declarations.
-pub(crate) fn collect_64<'a>(
-    section: &[u8],
-    abbreviations: &[u8],
-    locations: &[u8],
-    ranges: &'a [u8],
-    addresses: &[u8],
-    debug_ranges: &'a [u8],
-    tags: &[u8],
-    treatments: &[u8],
-    ranges_base: u64,
-    type_units: u64,
-    big_endian: u64,
-    fixed_addresses: u64,
+// With tables of so many entries and references, and an index of so many declarations.
+// No struct for the slices that are written: each contract would have to say that their lengths stay.
+pub(crate) fn collect_in<
+    const ENTRIES: usize,
+    const TWICE_ENTRIES: usize,
+    const REFERENCES: usize,
+    const TWICE_REFERENCES: usize,
+    const DECLARATIONS: usize,
+>(
+    inputs: Inputs<'_>,
     map: &mut [u8],
     range_list: &mut [u8],
     location_list: &mut [u8],
@@ -55,266 +61,41 @@ pub(crate) fn collect_64<'a>(
     out: &mut [u8],
     counts: &mut [u8],
 ) -> u64
-    ensures { is_full result ≡ false → Left (collected_of section.now abbreviations.now
-        locations.now ranges.now addresses.now debug_ranges.now
-        tags.now treatments.now ranges_base type_units big_endian fixed_addresses
-        (own_room (length map.old) (length range_list.old)
+    requires entries { ENTRIES ≤ 2048 }
+    requires twice_entries { TWICE_ENTRIES ≡ 2 * ENTRIES }
+    requires references { REFERENCES ≤ 8192 }
+    requires twice_references { TWICE_REFERENCES ≡ 2 * REFERENCES }
+    requires declarations { DECLARATIONS ≤ 2048 }
+    ensures { Left (made_of inputs.entry (room_of ENTRIES TWICE_REFERENCES ENTRIES ENTRIES ENTRIES ENTRIES REFERENCES
+        (length map.old) (length range_list.old)
         (length location_list.old) (length string_list.old) (length out.old)))
         result (length counts.old) counts.new (length map.old) map.new
         (length range_list.old) range_list.new (length location_list.old)
         location_list.new (length string_list.old) string_list.new
         (length out.old) out.new }
 {
-    let mut index = [0u64; 128];
-    let mut offsets = [0u64; 64];
-    let mut parents = [0u64; 64];
-    let mut roots = [0u8; 64];
-    let mut ends = [0u64; 64];
-    let mut marks = [0u8; 64];
-    let mut targets = [0u64; 128];
-    let mut pairs = [0u64; 256];
-    let mut work = [0u32; 128];
     collector_collect_lent(
-        section,
-        abbreviations,
-        locations,
-        ranges,
-        addresses,
-        debug_ranges,
-        tags,
-        treatments,
-        ranges_base,
-        type_units,
-        big_endian,
-        fixed_addresses,
-        &mut index,
-        &mut offsets,
-        &mut parents,
-        &mut roots,
-        &mut ends,
-        &mut marks,
-        &mut targets,
-        &mut pairs,
-        &mut work,
-        map,
-        range_list,
-        location_list,
-        string_list,
-        out,
-        counts,
-    )
-}
-
-// With tables of 384 entries and 768 references, and an index of 512 declarations.
-fn collect_384<'a>(
-    section: &[u8],
-    abbreviations: &[u8],
-    locations: &[u8],
-    ranges: &'a [u8],
-    addresses: &[u8],
-    debug_ranges: &'a [u8],
-    tags: &[u8],
-    treatments: &[u8],
-    ranges_base: u64,
-    type_units: u64,
-    big_endian: u64,
-    fixed_addresses: u64,
-    map: &mut [u8],
-    range_list: &mut [u8],
-    location_list: &mut [u8],
-    string_list: &mut [u8],
-    out: &mut [u8],
-    counts: &mut [u8],
-) -> u64
-    ensures { is_full result ≡ false → Left (collected_of section.now abbreviations.now
-        locations.now ranges.now addresses.now debug_ranges.now
-        tags.now treatments.now ranges_base type_units big_endian fixed_addresses
-        (own_room (length map.old) (length range_list.old)
-        (length location_list.old) (length string_list.old) (length out.old)))
-        result (length counts.old) counts.new (length map.old) map.new
-        (length range_list.old) range_list.new (length location_list.old)
-        location_list.new (length string_list.old) string_list.new
-        (length out.old) out.new }
-{
-    if !is_within(section, abbreviations, 2688, 2560) {
-        return FULL;
-    }
-    let mut index = [0u64; 512];
-    let mut offsets = [0u64; 384];
-    let mut parents = [0u64; 384];
-    let mut roots = [0u8; 384];
-    let mut ends = [0u64; 384];
-    let mut marks = [0u8; 384];
-    let mut targets = [0u64; 768];
-    let mut pairs = [0u64; 1536];
-    let mut work = [0u32; 768];
-    collector_collect_lent(
-        section,
-        abbreviations,
-        locations,
-        ranges,
-        addresses,
-        debug_ranges,
-        tags,
-        treatments,
-        ranges_base,
-        type_units,
-        big_endian,
-        fixed_addresses,
-        &mut index,
-        &mut offsets,
-        &mut parents,
-        &mut roots,
-        &mut ends,
-        &mut marks,
-        &mut targets,
-        &mut pairs,
-        &mut work,
-        map,
-        range_list,
-        location_list,
-        string_list,
-        out,
-        counts,
-    )
-}
-
-// With tables of 1,024 entries and 2,048 references, and an index of 1,024 declarations.
-fn collect_1024<'a>(
-    section: &[u8],
-    abbreviations: &[u8],
-    locations: &[u8],
-    ranges: &'a [u8],
-    addresses: &[u8],
-    debug_ranges: &'a [u8],
-    tags: &[u8],
-    treatments: &[u8],
-    ranges_base: u64,
-    type_units: u64,
-    big_endian: u64,
-    fixed_addresses: u64,
-    map: &mut [u8],
-    range_list: &mut [u8],
-    location_list: &mut [u8],
-    string_list: &mut [u8],
-    out: &mut [u8],
-    counts: &mut [u8],
-) -> u64
-    ensures { is_full result ≡ false → Left (collected_of section.now abbreviations.now
-        locations.now ranges.now addresses.now debug_ranges.now
-        tags.now treatments.now ranges_base type_units big_endian fixed_addresses
-        (own_room (length map.old) (length range_list.old)
-        (length location_list.old) (length string_list.old) (length out.old)))
-        result (length counts.old) counts.new (length map.old) map.new
-        (length range_list.old) range_list.new (length location_list.old)
-        location_list.new (length string_list.old) string_list.new
-        (length out.old) out.new }
-{
-    if !is_within(section, abbreviations, 7168, 5120) {
-        return FULL;
-    }
-    let mut index = [0u64; 1024];
-    let mut offsets = [0u64; 1024];
-    let mut parents = [0u64; 1024];
-    let mut roots = [0u8; 1024];
-    let mut ends = [0u64; 1024];
-    let mut marks = [0u8; 1024];
-    let mut targets = [0u64; 2048];
-    let mut pairs = [0u64; 4096];
-    let mut work = [0u32; 2048];
-    collector_collect_lent(
-        section,
-        abbreviations,
-        locations,
-        ranges,
-        addresses,
-        debug_ranges,
-        tags,
-        treatments,
-        ranges_base,
-        type_units,
-        big_endian,
-        fixed_addresses,
-        &mut index,
-        &mut offsets,
-        &mut parents,
-        &mut roots,
-        &mut ends,
-        &mut marks,
-        &mut targets,
-        &mut pairs,
-        &mut work,
-        map,
-        range_list,
-        location_list,
-        string_list,
-        out,
-        counts,
-    )
-}
-
-// With tables of 2,048 entries and 8,192 references, and an index of 2,048 declarations.
-fn collect_2048<'a>(
-    section: &[u8],
-    abbreviations: &[u8],
-    locations: &[u8],
-    ranges: &'a [u8],
-    addresses: &[u8],
-    debug_ranges: &'a [u8],
-    tags: &[u8],
-    treatments: &[u8],
-    ranges_base: u64,
-    type_units: u64,
-    big_endian: u64,
-    fixed_addresses: u64,
-    map: &mut [u8],
-    range_list: &mut [u8],
-    location_list: &mut [u8],
-    string_list: &mut [u8],
-    out: &mut [u8],
-    counts: &mut [u8],
-) -> u64
-    ensures { Left (collected_of section.now abbreviations.now
-        locations.now ranges.now addresses.now debug_ranges.now
-        tags.now treatments.now ranges_base type_units big_endian fixed_addresses
-        (own_room (length map.old) (length range_list.old)
-        (length location_list.old) (length string_list.old) (length out.old)))
-        result (length counts.old) counts.new (length map.old) map.new
-        (length range_list.old) range_list.new (length location_list.old)
-        location_list.new (length string_list.old) string_list.new
-        (length out.old) out.new }
-{
-    let mut index = [0u64; 2048];
-    let mut offsets = [0u64; 2048];
-    let mut parents = [0u64; 2048];
-    let mut roots = [0u8; 2048];
-    let mut ends = [0u64; 2048];
-    let mut marks = [0u8; 2048];
-    let mut targets = [0u64; 8192];
-    let mut pairs = [0u64; 16384];
-    let mut work = [0u32; 4096];
-    collector_collect_lent(
-        section,
-        abbreviations,
-        locations,
-        ranges,
-        addresses,
-        debug_ranges,
-        tags,
-        treatments,
-        ranges_base,
-        type_units,
-        big_endian,
-        fixed_addresses,
-        &mut index,
-        &mut offsets,
-        &mut parents,
-        &mut roots,
-        &mut ends,
-        &mut marks,
-        &mut targets,
-        &mut pairs,
-        &mut work,
+        inputs.section,
+        inputs.abbreviations,
+        inputs.locations,
+        inputs.ranges,
+        inputs.addresses,
+        inputs.debug_ranges,
+        inputs.tags,
+        inputs.treatments,
+        inputs.ranges_base,
+        inputs.type_units,
+        inputs.big_endian,
+        inputs.fixed_addresses,
+        &mut [0; DECLARATIONS],
+        &mut [0; ENTRIES],
+        &mut [0; ENTRIES],
+        &mut [0; ENTRIES],
+        &mut [0; ENTRIES],
+        &mut [0; ENTRIES],
+        &mut [0; REFERENCES],
+        &mut [0; TWICE_REFERENCES],
+        &mut [0; TWICE_ENTRIES],
         map,
         range_list,
         location_list,
@@ -325,19 +106,8 @@ fn collect_2048<'a>(
 }
 
 // With the two longest tiers.
-fn collect_longest<'a>(
-    section: &[u8],
-    abbreviations: &[u8],
-    locations: &[u8],
-    ranges: &'a [u8],
-    addresses: &[u8],
-    debug_ranges: &'a [u8],
-    tags: &[u8],
-    treatments: &[u8],
-    ranges_base: u64,
-    type_units: u64,
-    big_endian: u64,
-    fixed_addresses: u64,
+fn collect_longest(
+    inputs: Inputs<'_>,
     map: &mut [u8],
     range_list: &mut [u8],
     location_list: &mut [u8],
@@ -345,52 +115,29 @@ fn collect_longest<'a>(
     out: &mut [u8],
     counts: &mut [u8],
 ) -> u64
-    ensures { Left (collected_of section.now abbreviations.now
-        locations.now ranges.now addresses.now debug_ranges.now
-        tags.now treatments.now ranges_base type_units big_endian fixed_addresses
-        (own_room (length map.old) (length range_list.old)
+    ensures { Left (made_of inputs.entry (own_room (length map.old) (length range_list.old)
         (length location_list.old) (length string_list.old) (length out.old)))
         result (length counts.old) counts.new (length map.old) map.new
         (length range_list.old) range_list.new (length location_list.old)
         location_list.new (length string_list.old) string_list.new
         (length out.old) out.new }
 {
-    let answer = collect_1024(
-        section,
-        abbreviations,
-        locations,
-        ranges,
-        addresses,
-        debug_ranges,
-        tags,
-        treatments,
-        ranges_base,
-        type_units,
-        big_endian,
-        fixed_addresses,
-        map,
-        range_list,
-        location_list,
-        string_list,
-        out,
-        counts,
-    );
-    if !is_full(answer) {
-        return answer;
+    if inputs.is_within(7168, 5120) {
+        let answer = collect_in::<1024, 2048, 2048, 4096, 1024>(
+            inputs,
+            map,
+            range_list,
+            location_list,
+            string_list,
+            out,
+            counts,
+        );
+        if !is_full(answer) {
+            return answer;
+        }
     }
-    collect_2048(
-        section,
-        abbreviations,
-        locations,
-        ranges,
-        addresses,
-        debug_ranges,
-        tags,
-        treatments,
-        ranges_base,
-        type_units,
-        big_endian,
-        fixed_addresses,
+    collect_in::<2048, 4096, 8192, 16384, 2048>(
+        inputs,
         map,
         range_list,
         location_list,
@@ -400,20 +147,10 @@ fn collect_longest<'a>(
     )
 }
 
-// With the three longer tiers.
-pub(crate) fn collect_longer<'a>(
-    section: &[u8],
-    abbreviations: &[u8],
-    locations: &[u8],
-    ranges: &'a [u8],
-    addresses: &[u8],
-    debug_ranges: &'a [u8],
-    tags: &[u8],
-    treatments: &[u8],
-    ranges_base: u64,
-    type_units: u64,
-    big_endian: u64,
-    fixed_addresses: u64,
+// With the three longer tiers. A function of its own: a frame that holds the longest tables costs each call time.
+#[inline(never)]
+pub(crate) fn collect_longer(
+    inputs: Inputs<'_>,
     map: &mut [u8],
     range_list: &mut [u8],
     location_list: &mut [u8],
@@ -421,52 +158,29 @@ pub(crate) fn collect_longer<'a>(
     out: &mut [u8],
     counts: &mut [u8],
 ) -> u64
-    ensures { Left (collected_of section.now abbreviations.now
-        locations.now ranges.now addresses.now debug_ranges.now
-        tags.now treatments.now ranges_base type_units big_endian fixed_addresses
-        (own_room (length map.old) (length range_list.old)
+    ensures { Left (made_of inputs.entry (own_room (length map.old) (length range_list.old)
         (length location_list.old) (length string_list.old) (length out.old)))
         result (length counts.old) counts.new (length map.old) map.new
         (length range_list.old) range_list.new (length location_list.old)
         location_list.new (length string_list.old) string_list.new
         (length out.old) out.new }
 {
-    let answer = collect_384(
-        section,
-        abbreviations,
-        locations,
-        ranges,
-        addresses,
-        debug_ranges,
-        tags,
-        treatments,
-        ranges_base,
-        type_units,
-        big_endian,
-        fixed_addresses,
-        map,
-        range_list,
-        location_list,
-        string_list,
-        out,
-        counts,
-    );
-    if !is_full(answer) {
-        return answer;
+    if inputs.is_within(2688, 2560) {
+        let answer = collect_in::<384, 768, 768, 1536, 512>(
+            inputs,
+            map,
+            range_list,
+            location_list,
+            string_list,
+            out,
+            counts,
+        );
+        if !is_full(answer) {
+            return answer;
+        }
     }
     collect_longest(
-        section,
-        abbreviations,
-        locations,
-        ranges,
-        addresses,
-        debug_ranges,
-        tags,
-        treatments,
-        ranges_base,
-        type_units,
-        big_endian,
-        fixed_addresses,
+        inputs,
         map,
         range_list,
         location_list,

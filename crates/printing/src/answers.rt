@@ -1,8 +1,6 @@
 // What collect makes of a bundle's unit: the printout of document 01, or the whole answer on one line.
-use crate::marks::{letter, mark};
-use crate::text::{number, text};
-use bundle::{Bundle, section_bytes};
-use marking::setting::Setting;
+use crate::Told;
+use crate::marks::{Unit, letter, mark, unit_of};
 use marking::units::UnitMarks;
 use readers::offsets::UnitOffset;
 use rewriting::collect::{Collected, Counts};
@@ -12,355 +10,197 @@ use std::io;
 use std::io::Write;
 
 pub fn refused(to: &mut impl Write, n: u8) -> io::Result<()> {
-    number(to, b"refused ", n as u64)?;
-    text(to, b"\n")
+    writeln!(to, "refused {n}")
+}
+
+// What collect answered and wrote, where it refused nothing.
+#[derive(Clone, Copy)]
+struct Thinned<'a> {
+    rewritten: bool,
+    counts: Counts,
+    map: &'a [u8],
+    ranges: &'a [u8],
+    locations: &'a [u8],
+    strings: &'a [u8],
+    out: &'a [u8],
 }
 
 // ---- the printout
 
 // The new offset of an entry: of an untouched unit the old one, and `-` of a dead one.
-fn new_offset(
-    to: &mut impl Write,
-    map: &[u8],
-    c: Counts,
-    rewritten: bool,
-    old: u64,
-) -> io::Result<()> {
-    if !rewritten {
-        number(to, b" ", old)?;
-        return Ok(());
+fn new_offset(to: &mut impl Write, a: Thinned<'_>, old: u64) -> io::Result<()> {
+    if !a.rewritten {
+        return write!(to, " {old}");
     }
-    match rewriting::map::new_offset(map, c.places, UnitOffset(old)) {
-        Some(n) => {
-            number(to, b" ", n.0)?;
-        }
-        None => {
-            text(to, b" -")?;
-        }
+    match rewriting::map::new_offset(a.map, a.counts.places, UnitOffset(old)) {
+        Some(new) => write!(to, " {}", new.0),
+        None => write!(to, " -"),
     }
-    Ok(())
 }
 
 // The counts, then a line an entry: its offset, its mark, its new offset.
-fn entries(
-    to: &mut impl Write,
-    offsets: &[u64],
-    marks: &[u8],
-    map: &[u8],
-    c: Counts,
-    rewritten: bool,
-) -> io::Result<()> {
-    number(to, b"entries ", c.entries as u64)?;
-    number(to, b" kept ", c.kept as u64)?;
-    text(to, b"\n")?;
-    for (offset, mark) in offsets.iter().zip(marks.iter()).take(c.entries) {
-        number(to, b"", *offset)?;
-        letter(to, *mark)?;
-        new_offset(to, map, c, rewritten, *offset)?;
-        text(to, b"\n")?;
+fn entries(to: &mut impl Write, offsets: &[u64], marks: &[u8], a: Thinned<'_>) -> io::Result<()> {
+    writeln!(to, "entries {} kept {}", a.counts.entries, a.counts.kept)?;
+    for (offset, mark) in offsets.iter().zip(marks.iter()).take(a.counts.entries) {
+        write!(to, "{offset} {}", letter(*mark))?;
+        new_offset(to, a, *offset)?;
+        writeln!(to)?;
     }
     Ok(())
 }
 
 // The marks of the unit, beside what collect answered.
-fn marked<'a>(
-    to: &mut impl Write,
-    section: &[u8],
-    abbreviations: &[u8],
-    locations: &[u8],
-    ranges: &'a [u8],
-    addresses: &[u8],
-    debug_ranges: &'a [u8],
-    tags: &[u8],
-    treatments: &[u8],
-    setting: Setting,
-    map: &[u8],
-    c: Counts,
-    rewritten: bool,
-) -> io::Result<()> {
-    let mut offsets = [0u64; 2048];
-    let mut marks = [0u8; 2048];
-    match mark(
-        section,
-        abbreviations,
-        locations,
-        ranges,
-        addresses,
-        debug_ranges,
-        tags,
-        treatments,
-        setting,
-        &mut offsets,
-        &mut marks,
-    ) {
+fn marked(to: &mut impl Write, u: Unit<'_>, a: Thinned<'_>) -> io::Result<()> {
+    let mut offsets = [0; 2048];
+    let mut marks = [0; 2048];
+    match mark(u, &mut offsets, &mut marks) {
         Ok(UnitMarks {
             entries: _,
             kept: _,
-        }) => {
-            entries(to, &offsets, &marks, map, c, rewritten)?;
-        }
-        Err(n) => {
-            refused(to, n)?;
-        }
+        }) => entries(to, &offsets, &marks, a),
+        Err(n) => refused(to, n),
     }
-    Ok(())
 }
 
 // ---- the whole answer on one line
 
 // Numbers in brackets, or that the list is absent.
-fn list(to: &mut impl Write, name: &[u8], bytes: &[u8], count: Option<usize>) -> io::Result<()> {
-    text(to, name)?;
+fn list(to: &mut impl Write, name: &str, bytes: &[u8], count: Option<usize>) -> io::Result<()> {
+    write!(to, " {name} ")?;
     match count {
-        None => {
-            text(to, b"absent")?;
-        }
-        Some(n) => {
-            numbers(to, bytes, n)?;
-        }
+        None => write!(to, "absent"),
+        Some(n) => numbers(to, bytes, n),
     }
-    Ok(())
+}
+
+// What stands before a list's number i.
+fn comma(i: usize) -> &'static str {
+    if i == 0 { "" } else { "," }
 }
 
 fn numbers(to: &mut impl Write, bytes: &[u8], n: usize) -> io::Result<()> {
-    text(to, b"[")?;
+    write!(to, "[")?;
     for i in 0..n {
-        if i > 0 {
-            text(to, b",")?;
-        }
-        number(to, b"", rewriting::lists::number_at(bytes, i))?;
+        write!(to, "{}{}", comma(i), rewriting::lists::number_at(bytes, i))?;
     }
-    text(to, b"]")
+    write!(to, "]")
 }
 
 fn places(to: &mut impl Write, map: &[u8], n: usize) -> io::Result<()> {
-    text(to, b" map ")?;
+    write!(to, " map ")?;
     if n == 0 {
-        text(to, b"-")?;
-        return Ok(());
+        return write!(to, "-");
     }
     for i in 0..n {
-        if i > 0 {
-            text(to, b",")?;
-        }
-        number(to, b"", rewriting::map::old_at(map, i).0)?;
-        number(to, b">", rewriting::map::new_at(map, i).0)?;
-        number(to, b"@", rewriting::map::depth_at(map, i))?;
+        let old = rewriting::map::old_at(map, i).0;
+        let new = rewriting::map::new_at(map, i).0;
+        write!(
+            to,
+            "{}{old}>{new}@{}",
+            comma(i),
+            rewriting::map::depth_at(map, i)
+        )?;
     }
     Ok(())
-}
-
-fn two_digits(to: &mut impl Write, b: u8) -> io::Result<()> {
-    write!(to, "{b:02x}")
 }
 
 // Bytes after a name, `-` where there are none.
-pub fn hex(to: &mut impl Write, name: &[u8], bytes: &[u8], n: usize) -> io::Result<()> {
-    text(to, name)?;
-    if n == 0 {
-        text(to, b"-")?;
-        return Ok(());
+pub fn hex(to: &mut impl Write, name: &str, bytes: &[u8]) -> io::Result<()> {
+    write!(to, "{name} ")?;
+    if bytes.is_empty() {
+        return write!(to, "-");
     }
-    for byte in bytes.iter().take(n) {
-        two_digits(to, *byte)?;
+    for byte in bytes {
+        write!(to, "{byte:02x}")?;
     }
     Ok(())
 }
 
-fn line(
-    to: &mut impl Write,
-    answer: &[u8],
-    c: Counts,
-    map: &[u8],
-    ranges: &[u8],
-    locations: &[u8],
-    strings: &[u8],
-    out: &[u8],
-) -> io::Result<()> {
-    let ranges_count = c.ranges;
-    let locations_count = c.locations;
-    let strings_count = c.strings;
-    text(to, answer)?;
-    number(to, b" entries ", c.entries as u64)?;
-    number(to, b" kept ", c.kept as u64)?;
-    places(to, map, c.places)?;
-    list(to, b" ranges ", ranges, ranges_count)?;
-    list(to, b" locations ", locations, locations_count)?;
-    list(to, b" strings ", strings, strings_count)?;
-    hex(to, b" bytes ", out, c.bytes)?;
-    text(to, b"\n")
+fn line(to: &mut impl Write, a: Thinned<'_>) -> io::Result<()> {
+    let c = a.counts;
+    let answer = if a.rewritten {
+        "rewritten"
+    } else {
+        "untouched"
+    };
+    write!(to, "{answer} entries {} kept {}", c.entries, c.kept)?;
+    places(to, a.map, c.places)?;
+    list(to, "ranges", a.ranges, c.ranges)?;
+    list(to, "locations", a.locations, c.locations)?;
+    list(to, "strings", a.strings, c.strings)?;
+    hex(to, " bytes", &a.out[..c.bytes.min(a.out.len())])?;
+    writeln!(to)
 }
 
 // ---- bundles
 
-// The unit of given sections: tables of 2,048 entries and 8,192 references, 4,096 map places, 8,192 numbers a list,
-// 65,536 output bytes. What is lent for the answer holds no zeros before the call.
-fn unit<'a>(
-    to: &mut impl Write,
-    section: &[u8],
-    abbreviations: &[u8],
-    locations: &[u8],
-    ranges: &'a [u8],
-    addresses: &[u8],
-    debug_ranges: &'a [u8],
-    tags: &[u8],
-    treatments: &[u8],
-    setting: Setting,
-    whole: bool,
-) -> io::Result<()> {
-    let mut index = [0u64; 1024];
-    let mut offsets = [0u64; 2048];
-    let mut parents = [0u64; 2048];
-    let mut roots = [0u8; 2048];
-    let mut ends = [0u64; 2048];
-    let mut marks = [0u8; 2048];
-    let mut targets = [0u64; 8192];
-    let mut pairs = [0u64; 16384];
-    let mut work = [0u32; 4096];
-    let mut map = [7u8; 98304];
-    let mut range_list = [7u8; 65536];
-    let mut location_list = [7u8; 65536];
-    let mut string_list = [7u8; 65536];
-    let mut out = [7u8; 65536];
-    match rewriting::collect::collect(
-        section,
-        abbreviations,
-        locations,
-        ranges,
-        addresses,
-        debug_ranges,
-        tags,
-        treatments,
-        setting,
+// What becomes of a bundle's unit, in tables of 2,048 entries and 8,192 references, 4,096 map places, 8,192 numbers a
+// list and 65,536 output bytes. What is lent for the answer holds no zeros before the call.
+fn answered<W: Write, F: Fn(&mut W, Unit<'_>, Thinned<'_>) -> io::Result<()>>(
+    to: &mut W,
+    s: &[u8],
+    told: Told<'_>,
+    print: F,
+) -> io::Result<()>
+    requires { F.IsAlwaysCallable print }
+{
+    let Some(u) = unit_of(s, told) else {
+        return writeln!(to, "bundle");
+    };
+    let mut map = [7; 98304];
+    let mut ranges = [7; 65536];
+    let mut locations = [7; 65536];
+    let mut strings = [7; 65536];
+    let mut out = [7; 65536];
+    let (rewritten, counts) = match rewriting::collect::collect(
+        u.section,
+        u.abbreviations,
+        u.locations,
+        u.ranges,
+        u.addresses,
+        u.debug_ranges,
+        told.keep.tags,
+        told.keep.treatments,
+        told.setting,
         false,
-        &mut index,
-        &mut offsets,
-        &mut parents,
-        &mut roots,
-        &mut ends,
-        &mut marks,
-        &mut targets,
-        &mut pairs,
-        &mut work,
+        &mut [0; 1024],
+        &mut [0; 2048],
+        &mut [0; 2048],
+        &mut [0; 2048],
+        &mut [0; 2048],
+        &mut [0; 2048],
+        &mut [0; 8192],
+        &mut [0; 16384],
+        &mut [0; 4096],
         &mut map,
-        &mut range_list,
-        &mut location_list,
-        &mut string_list,
+        &mut ranges,
+        &mut locations,
+        &mut strings,
         &mut out,
     ) {
-        Ok(Collected::Untouched(c)) => {
-            if whole {
-                line(
-                    to,
-                    b"untouched",
-                    c,
-                    &map,
-                    &range_list,
-                    &location_list,
-                    &string_list,
-                    &out,
-                )?;
-            } else {
-                marked(
-                    to,
-                    section,
-                    abbreviations,
-                    locations,
-                    ranges,
-                    addresses,
-                    debug_ranges,
-                    tags,
-                    treatments,
-                    setting,
-                    &map,
-                    c,
-                    false,
-                )?;
-            }
-        }
-        Ok(Collected::Rewritten(c)) => {
-            if whole {
-                line(
-                    to,
-                    b"rewritten",
-                    c,
-                    &map,
-                    &range_list,
-                    &location_list,
-                    &string_list,
-                    &out,
-                )?;
-            } else {
-                marked(
-                    to,
-                    section,
-                    abbreviations,
-                    locations,
-                    ranges,
-                    addresses,
-                    debug_ranges,
-                    tags,
-                    treatments,
-                    setting,
-                    &map,
-                    c,
-                    true,
-                )?;
-            }
-        }
-        Err(n) => {
-            refused(to, n)?;
-        }
-    }
-    Ok(())
-}
-
-fn of_bundle(
-    to: &mut impl Write,
-    s: &[u8],
-    setting: Setting,
-    tags: &[u8],
-    treatments: &[u8],
-    whole: bool,
-) -> io::Result<()> {
-    let Some(b) = bundle::read_bundle(s) else {
-        text(to, b"bundle\n")?;
-        return Ok(());
+        Ok(Collected::Untouched(c)) => (false, c),
+        Ok(Collected::Rewritten(c)) => (true, c),
+        Err(n) => return refused(to, n),
     };
-    unit(
-        to,
-        section_bytes(s, b.unit),
-        section_bytes(s, b.abbreviations),
-        section_bytes(s, b.locations),
-        section_bytes(s, b.ranges),
-        section_bytes(s, b.addresses),
-        section_bytes(s, b.debug_ranges),
-        tags,
-        treatments,
-        setting,
-        whole,
-    )
+    let answer = Thinned {
+        rewritten,
+        counts,
+        map: &map,
+        ranges: &ranges,
+        locations: &locations,
+        strings: &strings,
+        out: &out,
+    };
+    print(to, u, answer)
 }
 
 // Prints the entries of a bundle's unit, by what is told of it, with their marks and new offsets; `refused` and a
 // number; `bundle` where it is none.
-pub fn thin(
-    to: &mut impl Write,
-    s: &[u8],
-    setting: Setting,
-    tags: &[u8],
-    treatments: &[u8],
-) -> io::Result<()> {
-    of_bundle(to, s, setting, tags, treatments, false)
+pub fn thin(to: &mut impl Write, s: &[u8], told: Told<'_>) -> io::Result<()> {
+    answered(to, s, told, |to, u, a| marked(to, u, a))
 }
 
 // Prints all that collect answers for a bundle's unit, on one line.
-pub fn answer(
-    to: &mut impl Write,
-    s: &[u8],
-    setting: Setting,
-    tags: &[u8],
-    treatments: &[u8],
-) -> io::Result<()> {
-    of_bundle(to, s, setting, tags, treatments, true)
+pub fn answer(to: &mut impl Write, s: &[u8], told: Told<'_>) -> io::Result<()> {
+    answered(to, s, told, |to, _, a| line(to, a))
 }

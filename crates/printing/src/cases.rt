@@ -3,481 +3,290 @@
 // printed.
 ghost use Rattle.std.specs.Prelude.{◌≤◌};
 
+use crate::Told;
 use crate::answers::{hex, refused};
+use crate::keep_list::KeepList;
 use crate::lengths::size;
-use crate::text::{number, text};
-use bundle::{Bundle, section_bytes};
+use crate::marks::{Unit, unit_of};
 use marking::setting::Setting;
-use readers::cursor::{Cursor, left};
+use readers::cursor::Cursor;
 use rewriting::collect::{Collected, Counts};
 
 use std::io;
 use std::io::Write;
 
-// ---- settings: numbers of eight bytes, big-endian. Where each stands:
+// ---- settings: numbers of eight bytes, big-endian
 
-const INDEX: usize = 0;
+// In the order in which they stand.
+#[derive(Clone, Copy)]
+enum Which {
+    Index,
+    Offsets,
+    Parents,
+    Roots,
+    Ends,
+    Marks,
+    Targets,
+    Pairs,
+    Map,
+    Ranges,
+    Locations,
+    Strings,
+    Output,
+    RangesBase,
+    TypeUnits,
+    BigEndian,
+    FixedAddresses,
+    Tags,
+    Treatments,
+}
 
-const OFFSETS: usize = 8;
-
-const PARENTS: usize = 16;
-
-const ROOTS: usize = 24;
-
-const ENDS: usize = 32;
-
-const MARKS: usize = 40;
-
-const TARGETS: usize = 48;
-
-const PAIRS: usize = 56;
-
-const MAP: usize = 64;
-
-const RANGES: usize = 72;
-
-const LOCATIONS: usize = 80;
-
-const STRINGS: usize = 88;
-
-const OUTPUT: usize = 96;
-
-const RANGES_BASE: usize = 104;
-
-const TYPE_UNITS: usize = 112;
-
-const BIG_ENDIAN: usize = 120;
-
-const FIXED_ADDRESSES: usize = 128;
-
-const TAGS: usize = 136;
-
-const TREATMENTS: usize = 144;
-
+// The bytes of all of them.
 const SETTINGS: usize = 152;
 
-fn setting(settings: &[u8], at: usize) -> u64 {
-    match (Cursor { at }).fixed(settings, 8, true) {
-        Some((n, _)) => n,
-        None => 0,
-    }
-}
+#[derive(Clone, Copy)]
+struct Settings<'a>(&'a [u8]);
 
-// What is told of the unit.
-fn told(settings: &[u8]) -> Setting {
-    Setting {
-        ranges_base: setting(settings, RANGES_BASE),
-        big_endian: setting(settings, BIG_ENDIAN) != 0,
-        fixed_addresses: setting(settings, FIXED_ADDRESSES) != 0,
+impl Settings<'_> {
+    fn number(self, which: Which) -> u64 {
+        let c = Cursor {
+            at: 8 * which as usize,
+        };
+        match c.fixed(self.0, 8, true) {
+            Some((n, _)) => n,
+            None => 0,
+        }
     }
-}
 
-// How much of an array is lent.
-fn lent(settings: &[u8], at: usize, most: usize) -> usize
-    ensures { result ≤ most }
-{
-    let n = setting(settings, at);
-    if n < (most as u64) {
-        return n as usize;
+    // What is told of the unit.
+    fn setting(self) -> Setting {
+        Setting {
+            ranges_base: self.number(Which::RangesBase),
+            big_endian: self.number(Which::BigEndian) != 0,
+            fixed_addresses: self.number(Which::FixedAddresses) != 0,
+        }
     }
-    most
+
+    // How much is lent of so much.
+    fn length(self, which: Which, most: usize) -> usize
+        ensures { result ≤ most }
+    {
+        self.number(which).min(most as u64) as usize
+    }
+
+    // What is lent of an array, and what lies behind it.
+    fn parts<'a, T>(self, which: Which, a: &'a [T]) -> (&'a [T], &'a [T]) {
+        a.split_at(self.length(which, a.len()))
+    }
+
+    fn lent<'a, T>(self, which: Which, a: &'a mut [T]) -> &'a mut [T] {
+        let n = self.length(which, a.len());
+        &mut a[..n]
+    }
 }
 
 // ---- the call
 
-// The answer for the bundle's unit.
-fn collect_bundle(
-    settings: &[u8],
-    s: &[u8],
-    index: &mut [u64],
-    offsets: &mut [u64],
-    parents: &mut [u64],
-    roots: &mut [u8],
-    ends: &mut [u64],
-    marks: &mut [u8],
-    targets: &mut [u64],
-    pairs: &mut [u64],
-    map: &mut [u8],
-    range_list: &mut [u8],
-    location_list: &mut [u8],
-    string_list: &mut [u8],
-    out: &mut [u8],
-    b: Bundle,
-    tags: &[u8],
-    treatments: &[u8],
-) -> Result<Collected, u8> {
-    let mut work = [0xa5a5_a5a5u32; 4096];
-    rewriting::collect::collect(
-        section_bytes(s, b.unit),
-        section_bytes(s, b.abbreviations),
-        section_bytes(s, b.locations),
-        section_bytes(s, b.ranges),
-        section_bytes(s, b.addresses),
-        section_bytes(s, b.debug_ranges),
-        tags,
-        treatments,
-        told(settings),
-        setting(settings, TYPE_UNITS) != 0,
-        index,
-        offsets,
-        parents,
-        roots,
-        ends,
-        marks,
-        targets,
-        pairs,
-        &mut work,
-        map,
-        range_list,
-        location_list,
-        string_list,
-        out,
-    )
+// The arrays of which a part is lent.
+#[derive(Drop)]
+struct Arrays {
+    index: [u64; 1024],
+    offsets: [u64; 2048],
+    parents: [u64; 2048],
+    roots: [u8; 2048],
+    ends: [u64; 2048],
+    marks: [u8; 2048],
+    targets: [u64; 8192],
+    pairs: [u64; 16384],
+    map: [u8; 98304],
+    ranges: [u8; 65536],
+    locations: [u8; 65536],
+    strings: [u8; 65536],
+    out: [u8; 65536],
 }
 
-// Lends the first part of each array.
-fn lend(
-    settings: &[u8],
-    s: &[u8],
-    index: &mut [u64],
-    offsets: &mut [u64],
-    parents: &mut [u64],
-    roots: &mut [u8],
-    ends: &mut [u64],
-    marks: &mut [u8],
-    targets: &mut [u64],
-    pairs: &mut [u64],
-    map: &mut [u8],
-    range_list: &mut [u8],
-    location_list: &mut [u8],
-    string_list: &mut [u8],
-    out: &mut [u8],
-    b: Bundle,
-    tags: &[u8],
-    treatments: &[u8],
-) -> Result<Collected, u8> {
-    let of_index = lent(settings, INDEX, index.len());
-    let of_offsets = lent(settings, OFFSETS, offsets.len());
-    let of_parents = lent(settings, PARENTS, parents.len());
-    let of_roots = lent(settings, ROOTS, roots.len());
-    let of_ends = lent(settings, ENDS, ends.len());
-    let of_marks = lent(settings, MARKS, marks.len());
-    let of_targets = lent(settings, TARGETS, targets.len());
-    let of_pairs = lent(settings, PAIRS, pairs.len());
-    let of_map = lent(settings, MAP, map.len());
-    let of_range_list = lent(settings, RANGES, range_list.len());
-    let of_location_list = lent(settings, LOCATIONS, location_list.len());
-    let of_string_list = lent(settings, STRINGS, string_list.len());
-    let of_out = lent(settings, OUTPUT, out.len());
-    collect_bundle(
-        settings,
-        s,
-        &mut index[..of_index],
-        &mut offsets[..of_offsets],
-        &mut parents[..of_parents],
-        &mut roots[..of_roots],
-        &mut ends[..of_ends],
-        &mut marks[..of_marks],
-        &mut targets[..of_targets],
-        &mut pairs[..of_pairs],
-        &mut map[..of_map],
-        &mut range_list[..of_range_list],
-        &mut location_list[..of_location_list],
-        &mut string_list[..of_string_list],
-        &mut out[..of_out],
-        b,
-        tags,
-        treatments,
+// What the arrays hold before the call.
+const BYTE: u8 = 0xa5;
+
+const NUMBER: u64 = 0xa5a5_a5a5_a5a5_a5a5;
+
+// The answer for the bundle's unit.
+fn collect(settings: Settings<'_>, u: Unit<'_>, a: &mut Arrays) -> Result<Collected, u8> {
+    rewriting::collect::collect(
+        u.section,
+        u.abbreviations,
+        u.locations,
+        u.ranges,
+        u.addresses,
+        u.debug_ranges,
+        u.told.keep.tags,
+        u.told.keep.treatments,
+        u.told.setting,
+        settings.number(Which::TypeUnits) != 0,
+        settings.lent(Which::Index, &mut a.index),
+        settings.lent(Which::Offsets, &mut a.offsets),
+        settings.lent(Which::Parents, &mut a.parents),
+        settings.lent(Which::Roots, &mut a.roots),
+        settings.lent(Which::Ends, &mut a.ends),
+        settings.lent(Which::Marks, &mut a.marks),
+        settings.lent(Which::Targets, &mut a.targets),
+        settings.lent(Which::Pairs, &mut a.pairs),
+        &mut [0xa5a5_a5a5; 4096],
+        settings.lent(Which::Map, &mut a.map),
+        settings.lent(Which::Ranges, &mut a.ranges),
+        settings.lent(Which::Locations, &mut a.locations),
+        settings.lent(Which::Strings, &mut a.strings),
+        settings.lent(Which::Output, &mut a.out),
     )
 }
 
 // ---- what it leaves: a table's lent part zeros, and behind it what was there
 
-fn numbers_end(a: &[u64], n: usize) -> bool {
-    a.iter().take(n).all(|x| *x == 0) && a.iter().skip(n).all(|x| *x == 0xa5a5_a5a5_a5a5_a5a5)
+fn is_clean<T: PartialEq + Default + Drop>((lent, behind): (&[T], &[T]), before: T) -> bool {
+    lent.iter().all(|x| *x == T::default()) && behind.iter().all(|x| *x == before)
 }
 
-fn bytes_end(a: &[u8], n: usize) -> bool {
-    a.iter().take(n).all(|x| *x == 0) && rest_kept(a, n)
-}
-
-fn tables_end(
-    settings: &[u8],
-    index: &[u64],
-    offsets: &[u64],
-    parents: &[u64],
-    roots: &[u8],
-    ends: &[u64],
-    marks: &[u8],
-    targets: &[u64],
-    pairs: &[u64],
-) -> bool {
-    if !numbers_end(index, lent(settings, INDEX, index.len())) {
-        return false;
-    }
-    if !numbers_end(offsets, lent(settings, OFFSETS, offsets.len())) {
-        return false;
-    }
-    if !numbers_end(parents, lent(settings, PARENTS, parents.len())) {
-        return false;
-    }
-    if !bytes_end(roots, lent(settings, ROOTS, roots.len())) {
-        return false;
-    }
-    if !numbers_end(ends, lent(settings, ENDS, ends.len())) {
-        return false;
-    }
-    if !bytes_end(marks, lent(settings, MARKS, marks.len())) {
-        return false;
-    }
-    if !numbers_end(targets, lent(settings, TARGETS, targets.len())) {
-        return false;
-    }
-    numbers_end(pairs, lent(settings, PAIRS, pairs.len()))
+fn tables_end(settings: Settings<'_>, a: &Arrays) -> bool {
+    is_clean(settings.parts(Which::Index, &a.index), NUMBER)
+        && is_clean(settings.parts(Which::Offsets, &a.offsets), NUMBER)
+        && is_clean(settings.parts(Which::Parents, &a.parents), NUMBER)
+        && is_clean(settings.parts(Which::Roots, &a.roots), BYTE)
+        && is_clean(settings.parts(Which::Ends, &a.ends), NUMBER)
+        && is_clean(settings.parts(Which::Marks, &a.marks), BYTE)
+        && is_clean(settings.parts(Which::Targets, &a.targets), NUMBER)
+        && is_clean(settings.parts(Which::Pairs, &a.pairs), NUMBER)
 }
 
 // Whether what lies behind the lent part is as it was.
-fn rest_kept(a: &[u8], n: usize) -> bool {
-    a.iter().skip(n).all(|x| *x == 0xa5)
+fn is_kept(settings: Settings<'_>, which: Which, a: &[u8]) -> bool {
+    settings.parts(which, a).1.iter().all(|x| *x == BYTE)
 }
 
-fn outputs_end(
-    settings: &[u8],
-    map: &[u8],
-    ranges: &[u8],
-    locations: &[u8],
-    strings: &[u8],
-    out: &[u8],
-) -> bool {
-    if !rest_kept(map, lent(settings, MAP, map.len())) {
-        return false;
-    }
-    if !rest_kept(ranges, lent(settings, RANGES, ranges.len())) {
-        return false;
-    }
-    if !rest_kept(locations, lent(settings, LOCATIONS, locations.len())) {
-        return false;
-    }
-    if !rest_kept(strings, lent(settings, STRINGS, strings.len())) {
-        return false;
-    }
-    rest_kept(out, lent(settings, OUTPUT, out.len()))
+fn outputs_end(settings: Settings<'_>, a: &Arrays) -> bool {
+    is_kept(settings, Which::Map, &a.map)
+        && is_kept(settings, Which::Ranges, &a.ranges)
+        && is_kept(settings, Which::Locations, &a.locations)
+        && is_kept(settings, Which::Strings, &a.strings)
+        && is_kept(settings, Which::Output, &a.out)
 }
 
 // ---- lines
 
-fn count(to: &mut impl Write, name: &[u8], c: Option<usize>) -> io::Result<()> {
+fn count(to: &mut impl Write, name: &str, c: Option<usize>) -> io::Result<()> {
     match c {
-        None => {
-            text(to, name)?;
-            text(to, b"absent")?;
-        }
-        Some(n) => {
-            number(to, name, n as u64)?;
-        }
+        None => write!(to, " {name} absent"),
+        Some(n) => write!(to, " {name} {n}"),
     }
-    Ok(())
 }
 
-fn counts(to: &mut impl Write, answer: &[u8], c: Counts) -> io::Result<()> {
-    let ranges = c.ranges;
-    let locations = c.locations;
-    let strings = c.strings;
-    number(to, answer, c.entries as u64)?;
-    number(to, b" kept ", c.kept as u64)?;
-    number(to, b" places ", c.places as u64)?;
-    number(to, b" bytes ", c.bytes as u64)?;
-    count(to, b" ranges ", ranges)?;
-    count(to, b" locations ", locations)?;
-    count(to, b" strings ", strings)?;
-    text(to, b"\n")
+fn counts(to: &mut impl Write, answer: &str, c: Counts) -> io::Result<()> {
+    write!(
+        to,
+        "{answer} entries {} kept {} places {} bytes {}",
+        c.entries, c.kept, c.places, c.bytes
+    )?;
+    count(to, "ranges", c.ranges)?;
+    count(to, "locations", c.locations)?;
+    count(to, "strings", c.strings)?;
+    writeln!(to)
 }
 
 fn answered(to: &mut impl Write, answer: Result<Collected, u8>) -> io::Result<()> {
     match answer {
-        Ok(Collected::Untouched(c)) => {
-            counts(to, b"untouched entries ", c)?;
-        }
-        Ok(Collected::Rewritten(c)) => {
-            counts(to, b"rewritten entries ", c)?;
-        }
-        Err(n) => {
-            refused(to, n)?;
-        }
+        Ok(Collected::Untouched(c)) => counts(to, "untouched", c),
+        Ok(Collected::Rewritten(c)) => counts(to, "rewritten", c),
+        Err(n) => refused(to, n),
     }
-    Ok(())
 }
 
-fn lent_bytes(
-    to: &mut impl Write,
-    settings: &[u8],
-    map: &[u8],
-    ranges: &[u8],
-    locations: &[u8],
-    strings: &[u8],
-    out: &[u8],
-) -> io::Result<()> {
-    hex(to, b"map ", map, lent(settings, MAP, map.len()))?;
+fn lent_bytes(to: &mut impl Write, settings: Settings<'_>, a: &Arrays) -> io::Result<()> {
+    hex(to, "map", settings.parts(Which::Map, &a.map).0)?;
+    hex(to, "\nranges", settings.parts(Which::Ranges, &a.ranges).0)?;
     hex(
         to,
-        b"\nranges ",
-        ranges,
-        lent(settings, RANGES, ranges.len()),
+        "\nlocations",
+        settings.parts(Which::Locations, &a.locations).0,
     )?;
     hex(
         to,
-        b"\nlocations ",
-        locations,
-        lent(settings, LOCATIONS, locations.len()),
+        "\nstrings",
+        settings.parts(Which::Strings, &a.strings).0,
     )?;
-    hex(
-        to,
-        b"\nstrings ",
-        strings,
-        lent(settings, STRINGS, strings.len()),
-    )?;
-    hex(to, b"\noutput ", out, lent(settings, OUTPUT, out.len()))?;
-    text(to, b"\n")
+    hex(to, "\noutput", settings.parts(Which::Output, &a.out).0)?;
+    writeln!(to)
 }
 
 // ---- cases
 
-fn unit(
+fn case(
     to: &mut impl Write,
-    settings: &[u8],
-    tags: &[u8],
-    treatments: &[u8],
+    settings: Settings<'_>,
+    keep: KeepList<'_>,
     s: &[u8],
-    b: Bundle,
 ) -> io::Result<()> {
-    let mut index = [0xa5a5_a5a5_a5a5_a5a5u64; 1024];
-    let mut offsets = [0xa5a5_a5a5_a5a5_a5a5u64; 2048];
-    let mut parents = [0xa5a5_a5a5_a5a5_a5a5u64; 2048];
-    let mut roots = [0xa5u8; 2048];
-    let mut ends = [0xa5a5_a5a5_a5a5_a5a5u64; 2048];
-    let mut marks = [0xa5u8; 2048];
-    let mut targets = [0xa5a5_a5a5_a5a5_a5a5u64; 8192];
-    let mut pairs = [0xa5a5_a5a5_a5a5_a5a5u64; 16384];
-    let mut map = [0xa5u8; 98304];
-    let mut range_list = [0xa5u8; 65536];
-    let mut location_list = [0xa5u8; 65536];
-    let mut string_list = [0xa5u8; 65536];
-    let mut out = [0xa5u8; 65536];
-    answered(
-        to,
-        lend(
-            settings,
-            s,
-            &mut index,
-            &mut offsets,
-            &mut parents,
-            &mut roots,
-            &mut ends,
-            &mut marks,
-            &mut targets,
-            &mut pairs,
-            &mut map,
-            &mut range_list,
-            &mut location_list,
-            &mut string_list,
-            &mut out,
-            b,
-            tags,
-            treatments,
-        ),
-    )?;
-    lent_bytes(
-        to,
-        settings,
-        &map,
-        &range_list,
-        &location_list,
-        &string_list,
-        &out,
-    )?;
-    let tables = tables_end(
-        settings, &index, &offsets, &parents, &roots, &ends, &marks, &targets, &pairs,
-    );
-    let outputs = outputs_end(
-        settings,
-        &map,
-        &range_list,
-        &location_list,
-        &string_list,
-        &out,
-    );
-    word(to, tables, outputs)
+    let told = Told {
+        setting: settings.setting(),
+        keep,
+    };
+    let Some(u) = unit_of(s, told) else {
+        return writeln!(to, "bundle");
+    };
+    let mut a = Arrays {
+        index: [NUMBER; 1024],
+        offsets: [NUMBER; 2048],
+        parents: [NUMBER; 2048],
+        roots: [BYTE; 2048],
+        ends: [NUMBER; 2048],
+        marks: [BYTE; 2048],
+        targets: [NUMBER; 8192],
+        pairs: [NUMBER; 16384],
+        map: [BYTE; 98304],
+        ranges: [BYTE; 65536],
+        locations: [BYTE; 65536],
+        strings: [BYTE; 65536],
+        out: [BYTE; 65536],
+    };
+    answered(to, collect(settings, u, &mut a))?;
+    lent_bytes(to, settings, &a)?;
+    writeln!(to, "{}", word(settings, &a))
 }
 
 // One word: whether tables and what was not lent are as they must be.
-fn word(to: &mut impl Write, tables: bool, outputs: bool) -> io::Result<()> {
-    if !tables {
-        text(to, b"tables\n")?;
-        return Ok(());
+fn word(settings: Settings<'_>, a: &Arrays) -> &'static str {
+    if !tables_end(settings, a) {
+        "tables"
+    } else if !outputs_end(settings, a) {
+        "behind"
+    } else {
+        "clean"
     }
-    if !outputs {
-        text(to, b"behind\n")?;
-        return Ok(());
-    }
-    text(to, b"clean\n")
 }
 
-fn case(
-    to: &mut impl Write,
-    settings: &[u8],
-    tags: &[u8],
-    treatments: &[u8],
-    s: &[u8],
-) -> io::Result<()> {
-    match bundle::read_bundle(s) {
-        None => {
-            text(to, b"bundle\n")?;
-        }
-        Some(b) => {
-            unit(to, settings, tags, treatments, s, b)?;
-        }
-    }
-    Ok(())
-}
-
-// Prints the case that stands first, after a line with its number: how many bytes it has, 0 where there is none.
-fn first_case(to: &mut impl Write, s: &[u8], n: u64) -> io::Result<usize> {
-    if s.len() < SETTINGS {
-        return Ok(0);
-    }
-    let settings = &s[0..SETTINGS];
-    let behind = &s[SETTINGS..];
-    let of_tags = lent(settings, TAGS, behind.len());
-    let tags = &behind[0..of_tags];
-    let rest = &behind[of_tags..];
-    let of_treatments = lent(settings, TREATMENTS, rest.len());
-    let treatments = &rest[0..of_treatments];
-    let held = &rest[of_treatments..];
-    let bytes = size(held, 0);
-    if bytes > held.len() {
-        return Ok(0);
-    }
-    number(to, b"-- ", n)?;
-    text(to, b"\n")?;
-    case(to, settings, tags, treatments, &held[0..bytes])?;
-    Ok(SETTINGS + of_tags + of_treatments + bytes)
+// Prints the case that stands first, after a line with its number. Answers what stands behind it, if there is a case.
+fn first_case<'a>(to: &mut impl Write, s: &'a [u8], n: u64) -> io::Result<Option<&'a [u8]>> {
+    let Some((settings, behind)) = s.split_at_checked(SETTINGS) else {
+        return Ok(None);
+    };
+    let settings = Settings(settings);
+    let (tags, behind) = settings.parts(Which::Tags, behind);
+    let (treatments, behind) = settings.parts(Which::Treatments, behind);
+    let (first, behind) = behind.split_at(size(behind));
+    writeln!(to, "-- {n}")?;
+    case(to, settings, KeepList { tags, treatments }, first)?;
+    Ok(Some(behind))
 }
 
 // Prints each case.
 pub fn list_all(to: &mut impl Write, s: &[u8]) -> io::Result<()> {
-    let mut at: usize = 0;
-    for n in 1..65537u64 {
-        if at >= s.len() {
+    let mut rest = s;
+    for n in 1..65537 {
+        if rest.is_empty() {
             return Ok(());
         }
-        let bytes = first_case(to, &s[at..], n)?;
-        if bytes == 0 {
+        let Some(behind) = first_case(to, rest, n)? else {
             return Ok(());
-        }
-        if bytes > s.len() - at {
-            return Ok(());
-        }
-        at += bytes;
+        };
+        rest = behind;
     }
     Ok(())
 }

@@ -1,5 +1,5 @@
 // What the readers read of a bundle's unit: header, entries with their attributes, references of expressions, lists.
-use crate::text::{number, text};
+use crate::answers::refused;
 use bundle::Bundle;
 use readers::abbreviations::{AttributeSpec, Checked, SpecStep};
 use readers::attributes::Attribute;
@@ -19,10 +19,20 @@ use readers::operations::{ListEntry, ListStep};
 use std::io;
 use std::io::Write;
 
+// A unit, with the sections that its entries name, its header and the index of its declarations.
+#[derive(Clone, Copy)]
+struct Unit<'a> {
+    bytes: &'a [u8],
+    abbreviations: &'a [u8],
+    locations: &'a [u8],
+    ranges: &'a [u8],
+    header: UnitHeader,
+    index: &'a [u64],
+}
+
 // Where the walk through the entries stands: the next entry or terminator, its depth, and the list bases.
 #[derive(Clone, Copy)]
 struct Place {
-    done: bool,
     next: Cursor,
     depth: u64,
     range_base: u64,
@@ -32,7 +42,6 @@ struct Place {
 // Where the walk through an entry's attributes stands: the next value and the next specification.
 #[derive(Clone, Copy)]
 struct Values {
-    done: bool,
     value: Cursor,
     spec: Cursor,
 }
@@ -40,74 +49,27 @@ struct Values {
 // More than a list, an entry or a unit of a bundle has steps.
 const MOST_TURNS: usize = 65537;
 
-// A number that was read as a signed one, from the bits of its two's complement.
-fn signed_number(to: &mut impl Write, s: &[u8], n: u64) -> io::Result<()> {
-    text(to, s)?;
-    if n >= 0x8000_0000_0000_0000 {
-        number(to, b"-", 0xffff_ffff_ffff_ffff - n + 1)
-    } else {
-        number(to, b"", n)
-    }
-}
-
-fn refused(to: &mut impl Write, n: u64) -> io::Result<()> {
-    number(to, b"refused ", n)?;
-    text(to, b"\n")
-}
-
 // ---- values
 
 // Whether the value of a form is a run of bytes, and not a number.
 fn is_bytes(form: u64) -> bool {
-    match form {
-        0x03 | 0x04 | 0x08 | 0x09 | 0x0a | 0x18 | 0x1e => true,
-        _ => false,
-    }
+    matches!(form, 0x03 | 0x04 | 0x08 | 0x09 | 0x0a | 0x18 | 0x1e)
 }
 
 fn value(to: &mut impl Write, form: u64, f: Field, implicit: u64) -> io::Result<()> {
-    if is_bytes(form) {
-        number(to, b" bytes ", f.start as u64)?;
-        number(to, b" to ", f.end as u64)?;
-        text(to, b"\n")?;
-        return Ok(());
+    match form {
+        _ if is_bytes(form) => writeln!(to, " bytes {} to {}", f.start, f.end),
+        DW_FORM_implicit_const => writeln!(to, " value {}", implicit.cast_signed()),
+        DW_FORM_sdata => writeln!(to, " value {}", f.value.cast_signed()),
+        DW_FORM_flag_present => writeln!(to, " value 1"),
+        _ => writeln!(to, " value {}", f.value),
     }
-    if form == DW_FORM_implicit_const {
-        signed_number(to, b" value ", implicit)?;
-        text(to, b"\n")?;
-        return Ok(());
-    }
-    if form == DW_FORM_sdata {
-        signed_number(to, b" value ", f.value)?;
-        text(to, b"\n")?;
-        return Ok(());
-    }
-    if form == DW_FORM_flag_present {
-        number(to, b" value ", 1)?;
-        text(to, b"\n")?;
-        return Ok(());
-    }
-    number(to, b" value ", f.value)?;
-    text(to, b"\n")
 }
 
 // ---- expressions
 
-fn reference_lines(to: &mut impl Write, table: &[u64], count: usize) -> io::Result<()> {
-    for i in 0..count {
-        if table.len() / 3 <= i {
-            return Ok(());
-        }
-        number(to, b"  reference at ", table[3 * i])?;
-        number(to, b" to ", table[3 * i + 1])?;
-        number(to, b" width ", table[3 * i + 2])?;
-        text(to, b"\n")?;
-    }
-    Ok(())
-}
-
 fn expression(to: &mut impl Write, s: &[u8], e: Encoding) -> io::Result<()> {
-    let mut table = [0u64; 6144];
+    let mut table = [0; 6144];
     match readers::expressions::references_of_expression(
         s,
         e.address_size,
@@ -116,24 +78,35 @@ fn expression(to: &mut impl Write, s: &[u8], e: Encoding) -> io::Result<()> {
         &mut table,
     ) {
         Ok(n) => {
-            reference_lines(to, &table, n)?;
+            for row in table.chunks_exact(3).take(n) {
+                writeln!(
+                    to,
+                    "  reference at {} to {} width {}",
+                    row[0], row[1], row[2]
+                )?;
+            }
+            Ok(())
         }
         Err(n) => {
-            text(to, b"  expression ")?;
-            refused(to, n as u64)?;
+            write!(to, "  expression ")?;
+            refused(to, n)
         }
     }
-    Ok(())
 }
 
 // ---- lists
 
+// The section of location lists or of range lists.
+#[derive(Clone, Copy)]
+struct ListSection<'a> {
+    bytes: &'a [u8],
+    location: bool,
+    encoding: Encoding,
+}
+
 // Whether an entry of a location list has an expression: base addresses have none.
 fn has_expression(kind: u8) -> bool {
-    match kind {
-        1 | 6 => false,
-        _ => true,
-    }
+    !matches!(kind, 1 | 6)
 }
 
 // The expression of a location list entry: its first field in a default location, else its third.
@@ -144,110 +117,71 @@ fn location_field(entry: ListEntry) -> Field {
     entry.third
 }
 
-fn list_line(to: &mut impl Write, entry: ListEntry) -> io::Result<()> {
-    let first = entry.first;
-    let second = entry.second;
-    number(to, b"  kind ", entry.kind as u64)?;
-    number(to, b" ", first.value)?;
-    number(to, b" ", second.value)
+// An entry's line, and of a location list's entry the expression.
+fn list_lines(to: &mut impl Write, s: ListSection<'_>, entry: ListEntry) -> io::Result<()> {
+    let (kind, first, second) = (entry.kind, entry.first.value, entry.second.value);
+    write!(to, "  kind {kind} {first} {second}")?;
+    if s.location && has_expression(kind) {
+        let f = location_field(entry);
+        writeln!(to, " bytes {} to {}", f.start, f.end)?;
+        return expression(to, f.expression(s.bytes), s.encoding);
+    }
+    writeln!(to)
 }
 
-// The rest of an entry's line, and of a location list's entry the expression.
-fn list_lines(
-    to: &mut impl Write,
-    s: &[u8],
-    entry: ListEntry,
-    location: bool,
-    e: Encoding,
-) -> io::Result<()> {
-    list_line(to, entry)?;
-    if location {
-        if has_expression(entry.kind) {
-            let f = location_field(entry);
-            number(to, b" bytes ", f.start as u64)?;
-            number(to, b" to ", f.end as u64)?;
-            text(to, b"\n")?;
-            expression(to, f.expression(s), e)?;
-            return Ok(());
-        }
-    }
-    text(to, b"\n")
+// A list ends here.
+fn ended(to: &mut impl Write) -> io::Result<Option<Cursor>> {
+    writeln!(to, "  end")?;
+    Ok(None)
 }
 
-// One pair of a range list of version 4; answers where the next one is, or nowhere at the list's end. A begin of all ones
-// makes its end the base of the pairs after it.
-fn pair_step(to: &mut impl Write, s: &[u8], c: Cursor, e: Encoding) -> io::Result<Option<Cursor>> {
-    if c.at >= s.len() {
-        text(to, b"  end\n")?;
-        return Ok(None);
+// What is here can't be read.
+fn list_refused(to: &mut impl Write) -> io::Result<Option<Cursor>> {
+    write!(to, "  list ")?;
+    refused(to, 5)?;
+    Ok(None)
+}
+
+// One pair of a range list of version 4; answers where the next one is, if the list goes on. A begin of all ones makes
+// its end the base of the pairs after it.
+fn pair_step(to: &mut impl Write, s: ListSection<'_>, c: Cursor) -> io::Result<Option<Cursor>> {
+    if c.at >= s.bytes.len() {
+        return ended(to);
     }
-    let Some(r) = c.row(s, ROW_ADDRESS_ADDRESS, e) else {
-        text(to, b"  list ")?;
-        refused(to, 5)?;
-        return Ok(None);
+    let Some(r) = c.row(s.bytes, ROW_ADDRESS_ADDRESS, s.encoding) else {
+        return list_refused(to);
     };
-    let begin = r.first;
-    let end = r.second;
-    let third = r.third;
-    if begin.value == 0 {
-        if end.value == 0 {
-            text(to, b"  end\n")?;
-            return Ok(None);
-        }
+    let (begin, end) = (r.first.value, r.second.value);
+    if begin == 0 && end == 0 {
+        return ended(to);
     }
-    number(to, b"  pair ", begin.value)?;
-    number(to, b" ", end.value)?;
-    text(to, b"\n")?;
-    Ok(Some(third.next()))
+    writeln!(to, "  pair {begin} {end}")?;
+    Ok(Some(r.third.next()))
 }
 
-// One entry of a list; answers where the next one is, or nowhere at the list's end. A range list of version 4 has pairs.
-fn list_step(
-    to: &mut impl Write,
-    s: &[u8],
-    c: Cursor,
-    location: bool,
-    e: Encoding,
-) -> io::Result<Option<Cursor>> {
-    if !location {
-        if e.version == 4 {
-            return pair_step(to, s, c, e);
-        }
+// One entry of a list; answers where the next one is, if the list goes on. A range list of version 4 has pairs.
+fn list_step(to: &mut impl Write, s: ListSection<'_>, c: Cursor) -> io::Result<Option<Cursor>> {
+    if !s.location && s.encoding.version == 4 {
+        return pair_step(to, s, c);
     }
-    match c.list_entry(s, location, e) {
+    match c.list_entry(s.bytes, s.location, s.encoding) {
         Some(ListStep::Entry(entry)) => {
-            list_lines(to, s, entry, location, e)?;
-            let next = entry.next;
-            Ok(Some(next))
+            list_lines(to, s, entry)?;
+            Ok(Some(entry.next))
         }
-        Some(ListStep::End) => {
-            text(to, b"  end\n")?;
-            Ok(None)
-        }
-        None => {
-            text(to, b"  list ")?;
-            refused(to, 5)?;
-            Ok(None)
-        }
+        Some(ListStep::End) => ended(to),
+        None => list_refused(to),
     }
 }
 
-fn list(
-    to: &mut impl Write,
-    s: &[u8],
-    start: Option<Cursor>,
-    location: bool,
-    e: Encoding,
-) -> io::Result<()> {
+fn list(to: &mut impl Write, s: ListSection<'_>, start: Option<Cursor>) -> io::Result<()> {
     let Some(first) = start else {
-        text(to, b"  list unresolved\n")?;
-        return Ok(());
+        return writeln!(to, "  list unresolved");
     };
-    number(to, b"  list at ", first.at as u64)?;
-    text(to, b"\n")?;
+    writeln!(to, "  list at {}", first.at)?;
     let mut c = first;
     for _ in 0..MOST_TURNS {
-        let Some(next) = list_step(to, s, c, location, e)? else {
+        let Some(next) = list_step(to, s, c)? else {
             return Ok(());
         };
         c = next;
@@ -257,138 +191,96 @@ fn list(
 
 // Whether an attribute can name a location list (DWARF 5, 7.5.4, class loclist).
 fn names_locations(name: u64) -> bool {
-    match name {
-        0x02 | 0x19 | 0x2a | 0x38 | 0x40 | 0x46 | 0x48 | 0x4a | 0x4d => true,
-        _ => false,
-    }
+    matches!(
+        name,
+        0x02 | 0x19 | 0x2a | 0x38 | 0x40 | 0x46 | 0x48 | 0x4a | 0x4d
+    )
 }
 
 // Whether it can name a range list (class rnglist).
 fn names_ranges(name: u64) -> bool {
-    match name {
-        0x2c | 0x55 => true,
-        _ => false,
-    }
+    matches!(name, 0x2c | 0x55)
 }
 
 fn lists(
     to: &mut impl Write,
-    locations: &[u8],
-    ranges: &[u8],
+    u: Unit<'_>,
     p: Place,
     name: u64,
     form: u64,
     v: u64,
-    e: Encoding,
 ) -> io::Result<()> {
-    if form == DW_FORM_rnglistx {
-        list(
-            to,
+    let encoding = u.header.encoding;
+    let ranges = ListSection {
+        bytes: u.ranges,
+        location: false,
+        encoding,
+    };
+    let locations = ListSection {
+        bytes: u.locations,
+        location: true,
+        encoding,
+    };
+    let (section, start) = match form {
+        DW_FORM_rnglistx => (
             ranges,
-            readers::lists::list_offset(ranges, p.range_base, v, e),
-            false,
-            e,
-        )?;
-    }
-    if form == DW_FORM_loclistx {
-        list(
-            to,
+            readers::lists::list_offset(u.ranges, p.range_base, v, encoding),
+        ),
+        DW_FORM_loclistx => (
             locations,
-            readers::lists::list_offset(locations, p.location_base, v, e),
-            true,
-            e,
-        )?;
-    }
-    if form == DW_FORM_sec_offset {
-        if names_ranges(name) {
-            list(to, ranges, readers::lists::list_start(ranges, v), false, e)?;
+            readers::lists::list_offset(u.locations, p.location_base, v, encoding),
+        ),
+        DW_FORM_sec_offset if names_ranges(name) => {
+            (ranges, readers::lists::list_start(u.ranges, v))
         }
-        if names_locations(name) {
-            list(
-                to,
-                locations,
-                readers::lists::list_start(locations, v),
-                true,
-                e,
-            )?;
+        DW_FORM_sec_offset if names_locations(name) => {
+            (locations, readers::lists::list_start(u.locations, v))
         }
-    }
-    Ok(())
+        _ => return Ok(()),
+    };
+    list(to, section, start)
 }
 
 // ---- attributes
 
+// The next attribute of an entry, its value, and where the walk stands behind it; None at the entry's end.
+fn next_attribute(u: Unit<'_>, v: Values) -> Option<(AttributeSpec, Attribute, Values)> {
+    let Some(SpecStep::Attribute(a)) = v.spec.attribute_spec(u.abbreviations) else {
+        return None;
+    };
+    let r = v
+        .value
+        .attribute(u.bytes, a.name, a.form, u.header.encoding)?;
+    let behind = Values {
+        value: r.field.next(),
+        spec: a.next,
+    };
+    Some((a, r, behind))
+}
+
 fn attribute_lines(
     to: &mut impl Write,
-    unit: &[u8],
-    locations: &[u8],
-    ranges: &[u8],
+    u: Unit<'_>,
     p: Place,
     a: AttributeSpec,
     v: Attribute,
-    e: Encoding,
 ) -> io::Result<()> {
-    let field = v.field;
-    number(to, b" attribute ", a.name)?;
-    number(to, b" form ", v.form)?;
-    value(to, v.form, field, a.implicit)?;
+    write!(to, " attribute {} form {}", a.name, v.form)?;
+    value(to, v.form, v.field, a.implicit)?;
     if v.form == DW_FORM_exprloc {
-        expression(to, field.expression(unit), e)?;
+        expression(to, v.field.expression(u.bytes), u.header.encoding)?;
     }
-    lists(to, locations, ranges, p, a.name, v.form, field.value, e)
+    lists(to, u, p, a.name, v.form, v.field.value)
 }
 
-fn ended(v: Values) -> Values {
-    let mut w = v;
-    w.done = true;
-    w
-}
-
-// One attribute of an entry.
-fn attribute_step(
-    to: &mut impl Write,
-    unit: &[u8],
-    abbreviations: &[u8],
-    locations: &[u8],
-    ranges: &[u8],
-    p: Place,
-    v: Values,
-    e: Encoding,
-) -> io::Result<Values> {
-    let spec = v.spec;
-    let place = v.value;
-    let Some(SpecStep::Attribute(a)) = spec.attribute_spec(abbreviations) else {
-        return Ok(ended(v));
-    };
-    let Some(r) = place.attribute(unit, a.name, a.form, e) else {
-        return Ok(ended(v));
-    };
-    attribute_lines(to, unit, locations, ranges, p, a, r, e)?;
-    let field = r.field;
-    let next = a.next;
-    Ok(Values {
-        done: false,
-        value: field.next(),
-        spec: next,
-    })
-}
-
-fn attributes(
-    to: &mut impl Write,
-    unit: &[u8],
-    abbreviations: &[u8],
-    locations: &[u8],
-    ranges: &[u8],
-    p: Place,
-    first: Values,
-    e: Encoding,
-) -> io::Result<()> {
+fn attributes(to: &mut impl Write, u: Unit<'_>, p: Place, first: Values) -> io::Result<()> {
     let mut v = first;
     for _ in 0..MOST_TURNS {
-        v = attribute_step(to, unit, abbreviations, locations, ranges, p, v, e)?;
-        if v.done {
+        let Some((a, r, behind)) = next_attribute(u, v) else {
             return Ok(());
-        }
+        };
+        attribute_lines(to, u, p, a, r)?;
+        v = behind;
     }
     Ok(())
 }
@@ -397,32 +289,23 @@ fn attributes(
 
 fn with_base(p: Place, name: u64, form: u64, value: u64) -> Place {
     let mut q = p;
-    if form == DW_FORM_sec_offset {
-        if name == DW_AT_rnglists_base {
-            q.range_base = value;
-        }
-        if name == DW_AT_loclists_base {
-            q.location_base = value;
-        }
+    match name {
+        DW_AT_rnglists_base if form == DW_FORM_sec_offset => q.range_base = value,
+        DW_AT_loclists_base if form == DW_FORM_sec_offset => q.location_base = value,
+        _ => {}
     }
     q
 }
 
-fn bases(unit: &[u8], abbreviations: &[u8], p: Place, first: Values, e: Encoding) -> Place {
+fn bases(u: Unit<'_>, p: Place, first: Values) -> Place {
     let mut q = p;
-    let mut c = first.value;
-    let mut spec = first.spec;
+    let mut v = first;
     for _ in 0..MOST_TURNS {
-        let Some(SpecStep::Attribute(a)) = spec.attribute_spec(abbreviations) else {
+        let Some((a, r, behind)) = next_attribute(u, v) else {
             return q;
         };
-        let Some(r) = c.attribute(unit, a.name, a.form, e) else {
-            return q;
-        };
-        let field = r.field;
-        q = with_base(q, a.name, r.form, field.value);
-        c = field.next();
-        spec = a.next;
+        q = with_base(q, a.name, r.form, r.field.value);
+        v = behind;
     }
     q
 }
@@ -431,190 +314,122 @@ fn bases(unit: &[u8], abbreviations: &[u8], p: Place, first: Values, e: Encoding
 
 fn entry_line(to: &mut impl Write, entry: Entry, depth: u64) -> io::Result<()> {
     let d = entry.declaration;
-    let offset = entry.offset;
-    number(to, b"entry ", offset.0)?;
-    number(to, b" depth ", depth)?;
-    number(to, b" code ", d.code)?;
-    number(to, b" tag ", d.tag)?;
-    if d.children {
-        text(to, b" children")?;
-    }
-    text(to, b"\n")
-}
-
-fn stopped(p: Place) -> Place {
-    let mut q = p;
-    q.done = true;
-    q
+    let children = if d.children { " children" } else { "" };
+    writeln!(
+        to,
+        "entry {} depth {depth} code {} tag {}{children}",
+        entry.offset.0, d.code, d.tag
+    )
 }
 
 // An entry, its attributes, and the place after it.
-fn entry(
-    to: &mut impl Write,
-    unit: &[u8],
-    abbreviations: &[u8],
-    locations: &[u8],
-    ranges: &[u8],
-    p: Place,
-    x: Entry,
-    e: Encoding,
-) -> io::Result<Place> {
+fn entry(to: &mut impl Write, u: Unit<'_>, p: Place, x: Entry) -> io::Result<Place> {
     entry_line(to, x, p.depth)?;
     let d = x.declaration;
-    let specs = d.attributes;
-    let values = x.values;
-    let next = x.next;
     let first = Values {
-        done: false,
-        value: values,
-        spec: specs,
+        value: x.values,
+        spec: d.attributes,
     };
     let mut q = p;
     if d.tag == DW_TAG_compile_unit {
-        q = bases(unit, abbreviations, p, first, e);
+        q = bases(u, p, first);
     }
-    attributes(to, unit, abbreviations, locations, ranges, q, first, e)?;
-    q.next = next;
+    attributes(to, u, q, first)?;
+    q.next = x.next;
     if d.children {
-        if q.depth < 65537 {
-            q.depth += 1;
-        }
+        q.depth = q.depth.saturating_add(1);
     }
     Ok(q)
 }
 
-// One entry or terminator.
-fn place_step(
-    to: &mut impl Write,
-    unit: &[u8],
-    abbreviations: &[u8],
-    locations: &[u8],
-    ranges: &[u8],
-    index: &[u64],
-    h: UnitHeader,
-    p: Place,
-) -> io::Result<Place> {
-    let e = h.encoding;
-    let c = p.next;
-    match c.step(unit, abbreviations, h.abbreviations, index, e) {
-        Some(Step::Entry(x)) => entry(to, unit, abbreviations, locations, ranges, p, x, e),
+// One entry or terminator; answers the place after it, if the unit goes on.
+fn place_step(to: &mut impl Write, u: Unit<'_>, p: Place) -> io::Result<Option<Place>> {
+    let h = u.header;
+    match p.next.step(
+        u.bytes,
+        u.abbreviations,
+        h.abbreviations,
+        u.index,
+        h.encoding,
+    ) {
+        Some(Step::Entry(x)) => Ok(Some(entry(to, u, p, x)?)),
         Some(Step::Terminator(next)) => {
-            number(to, b"terminator ", c.at as u64)?;
-            number(to, b" depth ", p.depth)?;
-            text(to, b"\n")?;
-            let mut q = p;
-            q.next = next;
-            if 0 < q.depth {
-                q.depth -= 1;
-            }
-            Ok(q)
+            writeln!(to, "terminator {} depth {}", p.next.at, p.depth)?;
+            Ok(Some(Place {
+                next,
+                depth: p.depth.saturating_sub(1),
+                ..p
+            }))
         }
-        Some(Step::End) => Ok(stopped(p)),
+        Some(Step::End) => Ok(None),
         None => {
             refused(to, 4)?;
-            Ok(stopped(p))
+            Ok(None)
         }
     }
 }
 
-fn entries(
-    to: &mut impl Write,
-    unit: &[u8],
-    abbreviations: &[u8],
-    locations: &[u8],
-    ranges: &[u8],
-    index: &[u64],
-    h: UnitHeader,
-) -> io::Result<()> {
-    let first = h.first;
+fn entries(to: &mut impl Write, u: Unit<'_>) -> io::Result<()> {
+    let base = readers::lists::list_base(u.header.encoding);
     let mut p = Place {
-        done: false,
         next: Cursor {
-            at: first.0 as usize,
+            at: u.header.first.0 as usize,
         },
         depth: 0,
-        range_base: readers::lists::list_base(h.encoding),
-        location_base: readers::lists::list_base(h.encoding),
+        range_base: base,
+        location_base: base,
     };
     for _ in 0..MOST_TURNS {
-        p = place_step(to, unit, abbreviations, locations, ranges, index, h, p)?;
-        if p.done {
+        let Some(next) = place_step(to, u, p)? else {
             return Ok(());
-        }
+        };
+        p = next;
     }
     Ok(())
 }
 
 fn header_line(to: &mut impl Write, h: UnitHeader) -> io::Result<()> {
     let e = h.encoding;
-    let first = h.first;
-    number(to, b"version ", e.version as u64)?;
-    number(to, b" unit type ", h.unit_type as u64)?;
-    number(to, b" address_size ", e.address_size as u64)?;
-    number(to, b" abbreviations ", h.abbreviations)?;
-    number(to, b" first ", first.0)?;
-    number(to, b" end ", h.end as u64)?;
-    text(to, b"\n")
+    write!(to, "version {} unit type {} ", e.version, h.unit_type)?;
+    write!(
+        to,
+        "address_size {} abbreviations {} ",
+        e.address_size, h.abbreviations
+    )?;
+    writeln!(to, "first {} end {}", h.first.0, h.end)
 }
 
-fn unit_lines(
-    to: &mut impl Write,
-    section: &[u8],
-    abbreviations: &[u8],
-    locations: &[u8],
-    ranges: &[u8],
-    h: UnitHeader,
-) -> io::Result<()> {
-    let mut index = [0u64; 1024];
+// Prints what a bundle holds, by the byte order of its unit; `bundle` where it is none, `refused` and a number where
+// its unit can't be read.
+pub fn dump(to: &mut impl Write, s: &[u8], big_endian: bool) -> io::Result<()> {
+    let Some(b) = bundle::read_bundle(s) else {
+        return writeln!(to, "bundle");
+    };
+    let section = bundle::section_bytes(s, b.unit);
+    let h = match readers::header::unit_header(section, big_endian) {
+        Ok(None) => return writeln!(to, "empty"),
+        Err(n) => return refused(to, n),
+        Ok(Some(h)) => h,
+    };
+    let abbreviations = bundle::section_bytes(s, b.abbreviations);
+    let mut index = [0; 1024];
     match readers::abbreviations::check_abbreviations(abbreviations, h.abbreviations, &mut index) {
         Checked::Accepted => {
             header_line(to, h)?;
-            entries(
-                to,
-                readers::header::unit_part(section, h),
+            let u = Unit {
+                bytes: readers::header::unit_part(section, h),
                 abbreviations,
-                locations,
-                ranges,
-                &index,
-                h,
-            )?;
-        }
-        Checked::Refused => {
-            refused(to, 3)?;
-        }
-    }
-    Ok(())
-}
-
-// Prints what a bundle holds, by the byte order of its unit; `bundle` where it is none, `refused` and a number where its
-// unit can't be read.
-pub fn dump(to: &mut impl Write, s: &[u8], big_endian: bool) -> io::Result<()> {
-    let Some(b) = bundle::read_bundle(s) else {
-        text(to, b"bundle\n")?;
-        return Ok(());
-    };
-    let unit = bundle::section_bytes(s, b.unit);
-    match readers::header::unit_header(unit, big_endian) {
-        Ok(None) => {
-            text(to, b"empty\n")?;
-        }
-        Err(n) => {
-            refused(to, n as u64)?;
-        }
-        Ok(Some(h)) => {
-            unit_lines(
-                to,
-                unit,
-                bundle::section_bytes(s, b.abbreviations),
-                bundle::section_bytes(s, b.locations),
-                marking::analysis::ranges_for(
+                locations: bundle::section_bytes(s, b.locations),
+                ranges: marking::analysis::ranges_for(
                     h.encoding,
                     bundle::section_bytes(s, b.ranges),
                     bundle::section_bytes(s, b.debug_ranges),
                 ),
-                h,
-            )?;
+                header: h,
+                index: &index,
+            };
+            entries(to, u)
         }
+        Checked::Refused => refused(to, 3),
     }
-    Ok(())
 }

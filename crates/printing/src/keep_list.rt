@@ -1,206 +1,96 @@
 // A keep list in a word: `--keep-list=` and `TAG=TREATMENT` for each tag, with commas between them; each number is
 // decimal, or hexadecimal behind `0x`. A word with no tag tells no list. What is told is lent as it stands: neither the
 // order of the tags nor the treatments are looked at.
+ghost use Rattle.std.specs.Prelude.{◌≤◌};
+
+use std::str;
 
 // A word has at most 4,096 bytes, so it has fewer tags.
 pub(crate) const MOST: usize = 1024;
 
-// Bytes before the first tag.
-const BEFORE: usize = 12;
-
-// ---- characters
-
-const COMMA: u8 = 0x2c;
-
-const ZERO: u8 = 0x30;
-
-const EQUALS: u8 = 0x3d;
-
-const X: u8 = 0x78;
+// Bytes of so many tags.
+pub(crate) const TAG_BYTES: usize = 2048;
 
 // ---- numbers
 
-// A number, and where it ends.
-#[derive(Clone, Copy)]
-enum NumberRead {
-    Value(u64, usize),
-    Nothing,
+// A number of at most 16 bits, its digits in front, and what stands behind them.
+fn digits(s: &[u8], base: u32) -> Option<(u16, &[u8])>
+    requires low { 2 ≤ base }
+    requires high { base ≤ 36 }
+{
+    let n = s
+        .iter()
+        .position(|byte| !char::from(*byte).is_digit(base))
+        .unwrap_or(s.len());
+    let (digits, behind) = s.split_at(n);
+    let value = u16::from_str_radix(str::from_utf8(digits).ok()?, base).ok()?;
+    Some((value, behind))
 }
 
-// What a digit counts; 16 where it is none.
-fn digit(byte: u8) -> u64 {
-    if byte < 0x30 {
-        return 16;
+fn number(s: &[u8]) -> Option<(u16, &[u8])> {
+    match s.strip_prefix(b"0x") {
+        Some(hexadecimal) => digits(hexadecimal, 16),
+        None => digits(s, 10),
     }
-    if byte <= 0x39 {
-        return (byte - 0x30) as u64;
-    }
-    if byte < 0x41 {
-        return 16;
-    }
-    if byte <= 0x46 {
-        return (byte - 0x37) as u64;
-    }
-    if byte < 0x61 {
-        return 16;
-    }
-    if byte <= 0x66 {
-        return (byte - 0x57) as u64;
-    }
-    16
-}
-
-// A number with one more digit. One that is larger than any tag stays.
-fn with_digit(value: u64, d: u64, base: u64) -> u64 {
-    if value > 0xffff {
-        return value;
-    }
-    if d > 15 {
-        return value;
-    }
-    if base == 16 {
-        return 16 * value + d;
-    }
-    10 * value + d
-}
-
-// A number that starts at one place and ends at another.
-fn number_to(value: u64, from: usize, end: usize) -> NumberRead {
-    if end == from {
-        return NumberRead::Nothing;
-    }
-    if value > 0xffff {
-        return NumberRead::Nothing;
-    }
-    NumberRead::Value(value, end)
-}
-
-fn digits(s: &[u8], from: usize, base: u64) -> NumberRead {
-    let mut value: u64 = 0;
-    let mut at = from;
-    while at < s.len() {
-        let d = digit(s[at]);
-        if d >= base {
-            return number_to(value, from, at);
-        }
-        value = with_digit(value, d, base);
-        at += 1;
-    }
-    number_to(value, from, at)
-}
-
-// Whether this byte stands at a place.
-fn is_at(s: &[u8], at: usize, byte: u8) -> bool {
-    if at >= s.len() {
-        return false;
-    }
-    s[at] == byte
-}
-
-// A number of at most 16 bits.
-fn number_at(s: &[u8], at: usize) -> NumberRead {
-    if at >= s.len() {
-        return NumberRead::Nothing;
-    }
-    if is_at(s, at, ZERO) {
-        if is_at(s, at + 1, X) {
-            return digits(s, at + 2, 16);
-        }
-    }
-    digits(s, at, 10)
 }
 
 // ---- tags and treatments
 
+// A keep list: two big-endian bytes for each tag, and a byte for each treatment.
 #[derive(Clone, Copy)]
-enum Pair {
-    Of {
-        tag: u64,
-        treatment: u64,
-        end: usize,
-    },
-    Nothing,
+pub struct KeepList<'a> {
+    pub tags: &'a [u8],
+    pub treatments: &'a [u8],
 }
 
-fn pair_at(s: &[u8], at: usize) -> Pair {
-    let NumberRead::Value(tag, middle) = number_at(s, at) else {
-        return Pair::Nothing;
-    };
-    if middle >= s.len() {
-        return Pair::Nothing;
-    }
-    if s[middle] != EQUALS {
-        return Pair::Nothing;
-    }
-    let NumberRead::Value(treatment, end) = number_at(s, middle + 1) else {
-        return Pair::Nothing;
-    };
-    if treatment > 0xff {
-        return Pair::Nothing;
-    }
-    Pair::Of {
-        tag,
-        treatment,
-        end,
-    }
+// The list that has no tags.
+pub(crate) const NO_TAGS: KeepList<'static> = KeepList {
+    tags: &[],
+    treatments: &[],
+};
+
+// A tag, its treatment, and what stands behind them.
+fn pair(s: &[u8]) -> Option<(u16, u8, &[u8])> {
+    let (tag, behind) = number(s)?;
+    let (treatment, behind) = number(behind.strip_prefix(b"=")?)?;
+    Some((tag, u8::try_from(treatment).ok()?, behind))
 }
 
-fn put(bytes: &mut [u8], at: usize, n: u64) {
-    if at < bytes.len() {
-        bytes[at] = (n % 256) as u8;
-    }
-}
-
-// How many tags a list has.
-#[derive(Clone, Copy)]
-pub(crate) enum ListRead {
-    Tags(usize),
-    Nothing,
-}
-
-// Reads the list from a place of a word on.
-fn pairs(s: &[u8], from: usize, tags: &mut [u8], treatments: &mut [u8]) -> ListRead {
-    let mut at = from;
+fn pairs<'a>(
+    s: &[u8],
+    tags: &'a mut [u8; TAG_BYTES],
+    treatments: &'a mut [u8; MOST],
+) -> Option<KeepList<'a>> {
+    let mut rest = s;
     for n in 0..MOST {
-        let Pair::Of {
-            tag,
-            treatment,
-            end,
-        } = pair_at(s, at)
-        else {
-            return ListRead::Nothing;
-        };
-        put(tags, 2 * n, tag / 256);
-        put(tags, 2 * n + 1, tag);
-        put(treatments, n, treatment);
-        if end >= s.len() {
-            return ListRead::Tags(n + 1);
+        let (tag, treatment, behind) = pair(rest)?;
+        tags[2 * n..2 * n + 2].copy_from_slice(&tag.to_be_bytes());
+        treatments[n] = treatment;
+        if behind.is_empty() {
+            return Some(KeepList {
+                tags: &tags[..2 * n + 2],
+                treatments: &treatments[..n + 1],
+            });
         }
-        if s[end] != COMMA {
-            return ListRead::Nothing;
-        }
-        at = end + 1;
+        rest = behind.strip_prefix(b",")?;
     }
-    ListRead::Nothing
+    None
 }
 
-// The list that a word tells: its tags, two big-endian bytes each, and its treatments.
-pub(crate) fn read_list(word: &[u8], tags: &mut [u8], treatments: &mut [u8]) -> ListRead {
-    if !word.starts_with(b"--keep-list=") {
-        return ListRead::Nothing;
+// The list that a word tells, written into these.
+pub(crate) fn read_list<'a>(
+    word: &[u8],
+    tags: &'a mut [u8; TAG_BYTES],
+    treatments: &'a mut [u8; MOST],
+) -> Option<KeepList<'a>> {
+    let list = word.strip_prefix(b"--keep-list=")?;
+    if list.is_empty() {
+        return Some(NO_TAGS);
     }
-    if word.len() == BEFORE {
-        return ListRead::Tags(0);
-    }
-    pairs(word, BEFORE, tags, treatments)
+    pairs(list, tags, treatments)
 }
 
 // Whether a word tells a list.
 pub(crate) fn is_keep_list(word: &[u8]) -> bool {
-    let mut tags = [0u8; 2048];
-    let mut treatments = [0u8; 1024];
-    match read_list(word, &mut tags, &mut treatments) {
-        ListRead::Tags(_) => true,
-        ListRead::Nothing => false,
-    }
+    read_list(word, &mut [0; TAG_BYTES], &mut [0; MOST]).is_some()
 }

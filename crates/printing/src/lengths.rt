@@ -1,17 +1,13 @@
 // The bundles of a file that has several, one behind the other.
-use readers::cursor::{Cursor, left};
+ghost use Rattle.std.specs.Prelude.{◌≤◌, ◌<◌, length};
 
-// How many bytes the bundle at a place has, its first length included; all that is left where it says more.
-pub(crate) fn size(s: &[u8], at: usize) -> usize {
-    let rest = left(s, at);
-    if rest < 4 {
-        return rest;
-    }
-    let Some((n, _)) = (Cursor { at }).fixed(s, 4, true) else {
-        return rest;
+// How many bytes the bundle in front has, its first length included; all where it says more.
+pub(crate) fn size(s: &[u8]) -> usize
+    ensures some { 0 < length s.now → 0 < result }
+    ensures within { result ≤ length s.now }
+{
+    let Some((length, rest)) = s.split_first_chunk() else {
+        return s.len();
     };
-    if n > ((rest - 4) as u64) {
-        return rest;
-    }
-    4 + (n as usize)
+    rest.len().min(u32::from_be_bytes(*length) as usize) + 4
 }

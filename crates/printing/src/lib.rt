@@ -1,9 +1,8 @@
 // What the programs print of bundles: of one on standard input, or of many that their arguments name.
 #![tactic(auto)]
 
-use crate::keep_list::{ListRead, MOST, is_keep_list, read_list};
+use crate::keep_list::{KeepList, MOST, NO_TAGS, TAG_BYTES, is_keep_list, read_list};
 use crate::lengths::size;
-use crate::text::{number, text};
 use marking::setting::Setting;
 use std::env::FillError;
 use std::io::{Read, Write};
@@ -16,249 +15,141 @@ pub mod dump;
 pub mod keep_list;
 pub mod lengths;
 pub mod marks;
-pub mod text;
 
 // ---- what is printed
 
-pub const DUMP: u8 = 1;
-
-pub const MARKS: u8 = 2;
-
-pub const THIN: u8 = 3;
-
-const COLLECT: u8 = 4;
-
-const CASES: u8 = 5;
+#[derive(Clone, Copy)]
+pub enum Kind {
+    Dump,
+    Marks,
+    Thin,
+    Collect,
+    Cases,
+}
 
 // Bytes of the longest argument that is read.
 const LONGEST: usize = 4096;
 
-// ---- options: what is told of a unit
+// ---- what is told of a unit
 
-// The setting, and which argument has the keep list: 0, the program's own name, where none has.
+#[derive(Clone, Copy)]
+pub struct Told<'a> {
+    pub setting: Setting,
+    pub keep: KeepList<'a>,
+}
+
+// The setting, and which argument has the keep list.
 #[derive(Clone, Copy)]
 struct Options {
     setting: Setting,
-    keep: usize,
+    keep: Option<usize>,
 }
 
 // Where nothing is told: no ranges base, little-endian, the roots that gc.rs finds, and no keep list.
-fn untold() -> Options {
-    Options {
-        setting: Setting {
-            ranges_base: 0,
-            big_endian: false,
-            fixed_addresses: false,
-        },
-        keep: 0,
+const UNTOLD: Options = Options {
+    setting: Setting {
+        ranges_base: 0,
+        big_endian: false,
+        fixed_addresses: false,
+    },
+    keep: None,
+};
+
+// What argument i tells beside what these options told before; None where it is no option, or the same one again.
+fn option(word: &[u8], i: usize, o: Options) -> Option<Options> {
+    let mut next = o;
+    match word {
+        b"--big-endian" if !o.setting.big_endian => next.setting.big_endian = true,
+        b"--fixed-addresses" if !o.setting.fixed_addresses => next.setting.fixed_addresses = true,
+        _ if o.keep.is_none() && is_keep_list(word) => next.keep = Some(i),
+        _ => return None,
     }
+    Some(next)
 }
 
-fn big_endian(o: Options) -> Options {
-    Options {
-        setting: Setting {
-            ranges_base: o.setting.ranges_base,
-            big_endian: true,
-            fixed_addresses: o.setting.fixed_addresses,
-        },
-        keep: o.keep,
-    }
-}
-
-fn fixed_addresses(o: Options) -> Options {
-    Options {
-        setting: Setting {
-            ranges_base: o.setting.ranges_base,
-            big_endian: o.setting.big_endian,
-            fixed_addresses: true,
-        },
-        keep: o.keep,
-    }
-}
-
-fn keep_list_at(i: usize, o: Options) -> Options {
-    let setting = o.setting;
-    Options { setting, keep: i }
-}
-
-// What a word tells beside what was told before; Unknown where it is no option, or the same one again.
-#[derive(Clone, Copy)]
-enum Told {
-    By(Options),
-    Unknown,
-}
-
-// Argument i, after these options.
-fn option(word: &[u8], i: usize, o: Options) -> Told {
-    if word == b"--big-endian".as_slice() {
-        if o.setting.big_endian {
-            return Told::Unknown;
-        }
-        return Told::By(big_endian(o));
-    }
-    if word == b"--fixed-addresses".as_slice() {
-        if o.setting.fixed_addresses {
-            return Told::Unknown;
-        }
-        return Told::By(fixed_addresses(o));
-    }
-    if is_keep_list(word) {
-        if o.keep != 0 {
-            return Told::Unknown;
-        }
-        return Told::By(keep_list_at(i, o));
-    }
-    Told::Unknown
-}
-
-// What argument i tells after these options: one that is too long is no option. None where there is no argument i.
-fn option_at(rt: &impl Env, i: usize, o: Options) -> Option<Told> {
-    let mut word = [0u8; LONGEST];
-    match rt.arg(i, &mut word) {
-        Ok(length) => Some(option(&word[..length], i, o)),
-        Err(FillError::TooLong) => Some(Told::Unknown),
-        Err(FillError::NotPresent) => None,
-    }
-}
-
-// What all the arguments tell: each is an option, and none is there twice.
-fn all_options(rt: &impl Env) -> Told {
-    let mut told = untold();
+// What all the arguments tell: each is an option, and none is there twice. One that is too long is no option.
+fn all_options(rt: &impl Env) -> Option<Options> {
+    let mut told = UNTOLD;
     for i in 1..usize::MAX {
-        match option_at(rt, i, told) {
-            Some(Told::By(next)) => {
-                told = next;
-            }
-            Some(Told::Unknown) => {
-                return Told::Unknown;
-            }
-            None => {
-                return Told::By(told);
-            }
+        let mut word = [0u8; LONGEST];
+        match rt.arg(i, &mut word) {
+            Ok(length) => told = option(&word[..length], i, told)?,
+            Err(FillError::TooLong) => return None,
+            Err(FillError::NotPresent) => return Some(told),
         }
     }
-    Told::By(told)
+    Some(told)
 }
 
-// The keep list of argument i, in the first bytes of these: how many tags it has; none of argument 0.
-fn keep_list_of(rt: &impl Env, i: usize, tags: &mut [u8], treatments: &mut [u8]) -> usize {
-    if i == 0 {
-        return 0;
-    }
+// The keep list of argument i, written into these; none where there is no argument i.
+fn keep_list_of<'a>(
+    rt: &impl Env,
+    i: usize,
+    tags: &'a mut [u8; TAG_BYTES],
+    treatments: &'a mut [u8; MOST],
+) -> KeepList<'a> {
     let mut word = [0u8; LONGEST];
     let Ok(length) = rt.arg(i, &mut word) else {
-        return 0;
+        return NO_TAGS;
     };
-    match read_list(&word[..length], tags, treatments) {
-        ListRead::Tags(n) => n,
-        ListRead::Nothing => 0,
+    read_list(&word[..length], tags, treatments).unwrap_or(NO_TAGS)
+}
+
+// What options tell, with the keep list written into these.
+fn told_of<'a>(
+    rt: &impl Env,
+    o: Options,
+    tags: &'a mut [u8; TAG_BYTES],
+    treatments: &'a mut [u8; MOST],
+) -> Told<'a> {
+    let keep = match o.keep {
+        Some(i) => keep_list_of(rt, i, tags, treatments),
+        None => NO_TAGS,
+    };
+    Told {
+        setting: o.setting,
+        keep,
     }
 }
 
 // ---- bundles
 
 // Of one bundle: what it holds, its marks, or what becomes of it.
-fn bundle(
-    to: &mut impl Write,
-    s: &[u8],
-    what: u8,
-    setting: Setting,
-    tags: &[u8],
-    treatments: &[u8],
-) -> io::Result<()> {
-    if what == DUMP {
-        dump::dump(to, s, setting.big_endian)
-    } else if what == MARKS {
-        marks::list(to, s, setting, tags, treatments)
-    } else {
-        answers::thin(to, s, setting, tags, treatments)
-    }
-}
-
-// Of one bundle of many, the whole answer of collect too.
-fn list(
-    to: &mut impl Write,
-    s: &[u8],
-    what: u8,
-    setting: Setting,
-    tags: &[u8],
-    treatments: &[u8],
-) -> io::Result<()> {
-    if what == COLLECT {
-        answers::answer(to, s, setting, tags, treatments)
-    } else {
-        bundle(to, s, what, setting, tags, treatments)
+fn bundle(to: &mut impl Write, s: &[u8], kind: Kind, told: Told<'_>) -> io::Result<()> {
+    match kind {
+        Kind::Dump => dump::dump(to, s, told.setting.big_endian),
+        Kind::Marks => marks::list(to, s, told),
+        Kind::Thin | Kind::Collect | Kind::Cases => answers::thin(to, s, told),
     }
 }
 
 // Prints each bundle, after a line with its place in the file.
-fn list_all(
-    to: &mut impl Write,
+fn list_all<W: Write, F: Fn(&mut W, &[u8]) -> io::Result<()>>(
+    to: &mut W,
     s: &[u8],
-    what: u8,
-    setting: Setting,
-    tags: &[u8],
-    treatments: &[u8],
-) -> io::Result<()> {
-    let mut at: usize = 0;
-    while at < s.len() {
-        let n = size(s, at);
-        if n == 0 {
-            return Ok(());
-        }
-        if n > s.len() - at {
-            return Ok(());
-        }
-        let end = at + n;
-        number(to, b"-- ", at as u64)?;
-        text(to, b"\n")?;
-        list(to, &s[at..end], what, setting, tags, treatments)?;
-        at = end;
+    each: F,
+) -> io::Result<()>
+    requires { F.IsAlwaysCallable each }
+{
+    let mut rest = s;
+    // No for: each bundle says where the next one starts.
+    while !rest.is_empty() {
+        writeln!(to, "-- {}", s.len() - rest.len())?;
+        let (first, behind) = rest.split_at(size(rest));
+        each(to, first)?;
+        rest = behind;
     }
     Ok(())
 }
 
 // A file is one bundle to dump and thin, bundles one after another to marks and collect, cases of collect to cases;
 // these say themselves what is told of their units.
-fn file(
-    to: &mut impl Write,
-    s: &[u8],
-    what: u8,
-    setting: Setting,
-    tags: &[u8],
-    treatments: &[u8],
-) -> io::Result<()> {
-    if what == CASES {
-        cases::list_all(to, s)
-    } else if what == MARKS {
-        list_all(to, s, what, setting, tags, treatments)
-    } else if what == COLLECT {
-        list_all(to, s, what, setting, tags, treatments)
-    } else {
-        bundle(to, s, what, setting, tags, treatments)
-    }
-}
-
-// Of a file, or of one bundle, by options.
-fn print(
-    rt: &impl Env,
-    to: &mut impl Write,
-    s: &[u8],
-    is_file: bool,
-    what: u8,
-    o: Options,
-) -> io::Result<()> {
-    let mut tags = [0u8; 2048];
-    let mut treatments = [0u8; 1024];
-    let n = keep_list_of(rt, o.keep, &mut tags, &mut treatments);
-    if n > MOST {
-        return Ok(());
-    }
-    let setting = o.setting;
-    if is_file {
-        file(to, s, what, setting, &tags[0..2 * n], &treatments[0..n])
-    } else {
-        bundle(to, s, what, setting, &tags[0..2 * n], &treatments[0..n])
+fn file<W: Write>(to: &mut W, s: &[u8], kind: Kind, told: Told<'_>) -> io::Result<()> {
+    match kind {
+        Kind::Marks => list_all(to, s, |to, first| marks::list(to, first, told)),
+        Kind::Collect => list_all(to, s, |to, first| answers::answer(to, first, told)),
+        Kind::Cases => cases::list_all(to, s),
+        Kind::Dump | Kind::Thin => bundle(to, s, kind, told),
     }
 }
 
@@ -275,20 +166,18 @@ fn first_bytes<R: Alloc>(rt: &R, input: impl Read + Drop, most: u64) -> io::Resu
 pub fn standard_input<R: Env + Input + Alloc>(
     rt: &R,
     to: &mut impl Write,
-    what: u8,
+    kind: Kind,
 ) -> io::Result<()> {
-    match all_options(rt) {
-        Told::Unknown => {
-            text(
-                to,
-                b"arguments: none, or some of --big-endian, --fixed-addresses, --keep-list=TAG=TREATMENT,..\n",
-            )
-        }
-        Told::By(o) => {
-            let input = first_bytes(rt, rt.reader(), 65537)?;
-            print(rt, to, &input, false, what, o)
-        }
-    }
+    let Some(o) = all_options(rt) else {
+        return writeln!(
+            to,
+            "arguments: none, or some of --big-endian, --fixed-addresses, --keep-list=TAG=TREATMENT,.."
+        );
+    };
+    let input = first_bytes(rt, rt.reader(), 65537)?;
+    let mut tags = [0; TAG_BYTES];
+    let mut treatments = [0; MOST];
+    bundle(to, &input, kind, told_of(rt, o, &mut tags, &mut treatments))
 }
 
 // Prints a file, after a line with its name. What can't be opened is no file, and so is a name that is not UTF-8.
@@ -296,20 +185,22 @@ fn file_at<R: Files + Env + Alloc>(
     rt: &R,
     to: &mut impl Write,
     path: &[u8],
-    what: u8,
+    kind: Kind,
     o: Options,
 ) -> io::Result<()> {
-    text(to, b"== ")?;
-    text(to, path)?;
-    text(to, b"\n")?;
+    to.write_all(b"== ")?;
+    to.write_all(path)?;
+    to.write_all(b"\n")?;
     let Ok(name) = str::from_utf8(path) else {
-        return text(to, b"no such file\n");
+        return writeln!(to, "no such file");
     };
-    let Ok(file) = fs::open(rt, name) else {
-        return text(to, b"no such file\n");
+    let Ok(opened) = fs::open(rt, name) else {
+        return writeln!(to, "no such file");
     };
-    let input = first_bytes(rt, file, 262144)?;
-    print(rt, to, &input, true, what, o)
+    let input = first_bytes(rt, opened, 262144)?;
+    let mut tags = [0; TAG_BYTES];
+    let mut treatments = [0; MOST];
+    file(to, &input, kind, told_of(rt, o, &mut tags, &mut treatments))
 }
 
 // ---- arguments
@@ -317,28 +208,20 @@ fn file_at<R: Files + Env + Alloc>(
 // What is asked for: what is printed of the files that follow, and what is told of their units.
 #[derive(Clone, Copy)]
 struct Asked {
-    what: u8,
+    kind: Kind,
     options: Options,
 }
 
-// What a word asks to be printed; 0 where it is none of the words.
-fn kind_of(word: &[u8]) -> u8 {
+// What a word asks to be printed, if it is one of the words.
+fn kind_of(word: &[u8]) -> Option<Kind> {
     match word {
-        b"dump" => DUMP,
-        b"marks" => MARKS,
-        b"thin" => THIN,
-        b"collect" => COLLECT,
-        b"cases" => CASES,
-        _ => 0,
+        b"dump" => Some(Kind::Dump),
+        b"marks" => Some(Kind::Marks),
+        b"thin" => Some(Kind::Thin),
+        b"collect" => Some(Kind::Collect),
+        b"cases" => Some(Kind::Cases),
+        _ => None,
     }
-}
-
-// `#` comes first.
-fn is_heading(word: &[u8]) -> bool {
-    if word.len() == 0 {
-        return false;
-    }
-    word[0] == 0x23
 }
 
 // Argument i after those before it: a heading, an option, a word, or a file. Answers what is asked for from then on. A
@@ -350,68 +233,44 @@ fn argument<R: Files + Env + Alloc>(
     i: usize,
     a: Asked,
 ) -> io::Result<Asked> {
-    if is_heading(word) {
-        text(to, word)?;
-        text(to, b"\n")?;
+    if word.starts_with(b"#") {
+        to.write_all(word)?;
+        to.write_all(b"\n")?;
         return Ok(a);
     }
-    let o = a.options;
-    if let Told::By(options) = option(word, i, o) {
-        return Ok(Asked {
-            what: a.what,
-            options,
-        });
+    if let Some(options) = option(word, i, a.options) {
+        return Ok(Asked { options, ..a });
     }
     if is_keep_list(word) {
+        let options = Options {
+            keep: Some(i),
+            ..a.options
+        };
+        return Ok(Asked { options, ..a });
+    }
+    if let Some(kind) = kind_of(word) {
         return Ok(Asked {
-            what: a.what,
-            options: keep_list_at(i, o),
+            kind,
+            options: UNTOLD,
         });
     }
-    let next = kind_of(word);
-    if next != 0 {
-        return Ok(Asked {
-            what: next,
-            options: untold(),
-        });
-    }
-    file_at(rt, to, word, a.what, o)?;
+    file_at(rt, to, word, a.kind, a.options)?;
     Ok(a)
-}
-
-// The same for argument i; nothing is asked for from where there is none.
-fn argument_at<R: Files + Env + Alloc>(
-    rt: &R,
-    to: &mut impl Write,
-    i: usize,
-    a: Asked,
-) -> io::Result<Asked> {
-    let none = Asked {
-        what: 0,
-        options: untold(),
-    };
-    let mut word = [0u8; LONGEST];
-    let Ok(length) = rt.arg(i, &mut word) else {
-        return Ok(none);
-    };
-    if length == 0 {
-        return Ok(none);
-    }
-    argument(rt, to, &word[..length], i, a)
 }
 
 // Prints what the program's arguments ask for: `# ..` is a heading, printed as it is; `dump`, `marks`, `thin`,
 // `collect` or `cases` says what is printed of the files that the arguments after it name; options after it what is
-// told of their units.
+// told of their units. The arguments end before the first one that is empty or too long.
 pub fn arguments<R: Files + Env + Alloc>(rt: &R, to: &mut impl Write) -> io::Result<()> {
     let mut a = Asked {
-        what: DUMP,
-        options: untold(),
+        kind: Kind::Dump,
+        options: UNTOLD,
     };
     for i in 1..10000 {
-        a = argument_at(rt, to, i, a)?;
-        if a.what == 0 {
-            return Ok(());
+        let mut word = [0u8; LONGEST];
+        match rt.arg(i, &mut word) {
+            Ok(length) if length > 0 => a = argument(rt, to, &word[..length], i, a)?,
+            _ => return Ok(()),
         }
     }
     Ok(())

@@ -1,7 +1,6 @@
 // Prints what the arguments ask for, of units made by hand; then the marks of small graphs.
 #![tactic(auto)]
 
-use printing::text::text;
 use std::io;
 use std::io::{BufWriter, Write};
 
@@ -10,7 +9,7 @@ mod graphs;
 fn main(rt: HostRuntime) -> io::Result<()> {
     let mut out = BufWriter::new(rt.alloc(), io::writer(&rt))?;
     printing::arguments(&rt, &mut out)?;
-    text(&mut out, b"# small graphs\n")?;
+    writeln!(out, "# small graphs")?;
     graphs::print(&mut out)?;
     out.flush()
 }

@@ -1,9 +1,16 @@
 -- What a call with tables of its own leaves, and which answers are those of a table that is full.
 use Rattle.std.specs.Prelude.{◌≡◌, ℕ, Bool, List, eqb}
 use Rattle.readers.specs.Choice.{◌or◌}
-use Rattle.rewriting.specs.Rewriting.{Collected}
+use Rattle.rewriting.specs.Rewriting.{Room, Collected}
 use Rattle.rewriting.specs.Outputs.{answer_for, map_for, list_for, output_for, ranges_in, locations_in, strings_in}
-use Rattle.collector.specs.Call.{number_for, counts_for}
+use Rattle.collector.specs.Call.{number_for, counts_for, collected_of}
+use Rattle.collector.specs.declared.own_tables.Inputs.{Inputs}
+
+-- what collect makes of a call's inputs
+abbrev pub made_of : Inputs → Room → Collected
+made_of i room =
+    collected_of i.section.now i.abbreviations.now i.locations.now i.ranges.now i.addresses.now i.debug_ranges.now
+    i.tags.now i.treatments.now i.ranges_base i.type_units i.big_endian i.fixed_addresses room
 
 -- the number that is answered, and each slice, by its length
 pub record Left (c : Collected) (r k : ℕ) (counts : List ℕ) (m : ℕ) (map : List ℕ) (a : ℕ) (ranges : List ℕ)

@@ -3,10 +3,10 @@ use Rattle.collector.specs.Call.{count_of}
 use borrow.Author.Rules.{rules}
 use Rattle.collector.proofs.answers.count_of.Goals as goal
 
-pub returns-in-Present : goal.returns-in-Present
+pub returns-in-Some : goal.returns-in-Some
 unfolding count_of
-returns-in-Present c = search rules
+returns-in-Some c = search rules
 
-pub returns-in-Absent : goal.returns-in-Absent
+pub returns-in-None : goal.returns-in-None
 unfolding count_of
-returns-in-Absent c = search rules
+returns-in-None c = search rules

@@ -1,18 +1,13 @@
--- `collect_longer` meets its contract: it leaves what a tier leaves that is not full, or what the next one leaves. Assumes nothing.
+-- `collect_longer` meets its contract: what a tier leaves that is not full. Assumes nothing.
 use mathlib.Core.Path.{sym, ◌∙◌}
-use Rattle.collector.proofs.Tiers.{left-before}
+use native.Mathlib.Omega.{arith}
+use Rattle.readers.specs.Choice.{pick}
+use Rattle.marking.specs.Columns.{least, rooms_of, unit_rooms}
+use Rattle.collector.proofs.Tiers.{left-larger}
 use Rattle.collector.proofs.own_tables.collect_longer.Goals as goal
 
 pub returns-then-not-is_full : goal.returns-then-not-is_full
-returns-then-not-is_full c = c.collect_384-answer.ensures (sym c.is_full.ensures ∙ c.if-not-is_full.true)
-
-pub returns : goal.returns
-returns c = left-before c.args.section.now c.args.abbreviations.now c.args.locations.now c.args.ranges.now c.args.addresses.now c.args.debug_ranges.now
-    c.args.tags.now c.args.treatments.now c.args.ranges_base c.args.type_units c.args.big_endian c.args.fixed_addresses _ _ _ _ _ _ _ _ _ _ _ _ _ _ _ _ _ _ _
-    c.collect_384-answer.auto.counts
-    c.collect_384-answer.auto.map
-    c.collect_384-answer.auto.range_list
-    c.collect_384-answer.auto.location_list
-    c.collect_384-answer.auto.string_list
-    c.collect_384-answer.auto.out
-    c.collect_longest.ensures
+unfolding unit_rooms rooms_of least pick
+returns-then-not-is_full c =
+    left-larger c.args.inputs _ _ _ _ _ _ _ _ _ _ _ _ _ (unit_rooms 384 1536 384 384 384 384 768) (omega arith) (omega arith)
+    c.collect_in-answer.ensures (sym c.is_full.ensures ∙ c.if-not-is_full.true)
