@@ -7,7 +7,6 @@ ghost use Rattle.collector.specs.Call.{count_of, presence_of, count_bytes, is_un
 
 use readers::tables::clear_bytes;
 use rewriting::collect::{Collected, Counts};
-
 use rewriting::numbers::put_big_endian;
 
 // The numbers of an accepted answer, above every refusal's, with and without room for the counts.

@@ -4,7 +4,6 @@ use crate::marks::{Unit, letter, mark, unit_of};
 use marking::units::UnitMarks;
 use readers::offsets::UnitOffset;
 use rewriting::collect::{Collected, Counts};
-
 use rewriting::map::UnitOffset;
 use std::io;
 use std::io::Write;
@@ -54,10 +53,12 @@ fn marked(to: &mut impl Write, u: Unit<'_>, a: Thinned<'_>) -> io::Result<()> {
     let mut offsets = [0; 2048];
     let mut marks = [0; 2048];
     match mark(u, &mut offsets, &mut marks) {
-        Ok(UnitMarks {
-            entries: _,
-            kept: _,
-        }) => entries(to, &offsets, &marks, a),
+        Ok(
+            UnitMarks {
+                entries: _,
+                kept: _,
+            },
+        ) => entries(to, &offsets, &marks, a),
         Err(n) => refused(to, n),
     }
 }

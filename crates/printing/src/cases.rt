@@ -11,7 +11,6 @@ use crate::marks::{Unit, unit_of};
 use marking::setting::Setting;
 use readers::cursor::Cursor;
 use rewriting::collect::{Collected, Counts};
-
 use std::io;
 use std::io::Write;
 

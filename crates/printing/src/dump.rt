@@ -10,7 +10,6 @@ use readers::codes::{
 };
 use readers::cursor::{Cursor, Encoding};
 use readers::entries::{Entry, Step};
-
 use readers::fields::{Field, Operands};
 use readers::header::UnitHeader;
 use readers::layouts::ROW_ADDRESS_ADDRESS;

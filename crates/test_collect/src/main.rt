@@ -3,7 +3,6 @@
 #![tactic(auto)]
 
 use printing::answers::hex;
-
 use std::io;
 use std::io::{BufWriter, Write};
 
