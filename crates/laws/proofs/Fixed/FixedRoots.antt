@@ -24,7 +24,7 @@ use Rattle.laws.specs.FixedAddresses.{FixedLocation, FixedVariable, AlsoRoot}
 use Rattle.laws.proofs.Tables.NotRead.{behind-locations}
 use Rattle.laws.proofs.Fixed.FixedLocations.{Counted, locations-counted, locations-found}
 
-dead-not-live : Ok Dead ≡ Ok Live → ⊥
+dead-not-live : ◌≡◌ {A = Result Verdict ℕ} (Ok Dead) (Ok Live) → ⊥
 dead-not-live q = let z : ◌≡◌ {A = ℕ} 0 1 = cc in omega arith
 
 -- ---- the root test

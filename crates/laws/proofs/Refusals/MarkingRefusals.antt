@@ -183,7 +183,7 @@ entries-refusal x section room h ds n z q d a =
 
 -- the marks of a unit are refused as its analysis is
 unfoldable MarksNumbered : Result UnitMarks ℕ → Type 0
-MarksNumbered (unit_marked n k) = Unit {0}
+MarksNumbered (Ok m) = Unit {0}
 MarksNumbered (Err n) = AnalysisRefusal n
 
 marks-numbered : (a : Analysed) → AnalysedOf analysis_numbers a → MarksNumbered (unit_marks a)

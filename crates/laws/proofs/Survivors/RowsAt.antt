@@ -43,7 +43,7 @@ module _ (e : Encoding) (x : Sections) (unit : List ℕ) where
 
 -- ---- the verdict of a row
 
-pub live-not-dead : Ok Live ≡ Ok Dead → ⊥
+pub live-not-dead : ◌≡◌ {A = Result Verdict ℕ} (Ok Live) (Ok Dead) → ⊥
 live-not-dead q = let z : ◌≡◌ {A = ℕ} 0 1 = cc in omega arith
 
 pub not-dead-root : (v : Result Verdict ℕ) (root : ℕ) → Tested v root → (v ≡ Ok Dead → ⊥) → root ≡ 1

@@ -1,5 +1,6 @@
 -- THE LAW OF DEMAND 3 about the survivors of a unit, whatever becomes of it: unit_marked, rewritten, left untouched, or refused
 -- after its analysis. Assumes nothing but that the unit is analysed.
+use Rattle.readers.proofs.Refusing.{same_ok}
 use mathlib.Core.Path.{◌≡◌, refl, ap, ap₂, sym, ◌∙◌, subst}
 use Prim.Native.Nat.{ℕ, suc, ◌<◌}
 use native.Mathlib.Omega.{arith}
@@ -224,8 +225,8 @@ module _ (x : Sections) (section : List ℕ) (room : Rooms) (n k : ℕ) where
   unfolding unit_marks
   marked_by (analysed rows) a q =
       let s : SurvivorsOf x section rows = unit-survivors x section room rows a in
-      let e : length rows ≡ n = cc in
-      let c : kept_count (marks_in rows) ≡ k = cc in
+      let e : length rows ≡ n = ap (λ m. m.entries) (same_ok _ _ q) in
+      let c : kept_count (marks_in rows) ≡ k = ap (λ m. m.kept) (same_ok _ _ q) in
       record {
         rows = rows;
         analysis = a;

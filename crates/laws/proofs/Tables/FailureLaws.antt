@@ -43,7 +43,7 @@ five = one_of others 5 tt
 
 -- ---- what a root test asks
 
-same-verdict : (m n : ℕ) → Err m ≡ Err n → m ≡ n
+same-verdict : (m n : ℕ) → ◌≡◌ {A = Result Verdict ℕ} (Err m) (Err n) → m ≡ n
 same-verdict m n q = cc
 
 module _ (table : List ℕ) (n : ℕ) (o : OneOf table_numbers n) (e : Encoding) where

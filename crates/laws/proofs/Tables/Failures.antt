@@ -1,5 +1,6 @@
 -- How an address table fails at an index: by a byte above 1 with 6, past the end of a table that isn't empty with 17 (document 02,
 -- Point 5). Assumes nothing.
+use Rattle.marking.specs.declared.addresses.Verdict.{Verdict}
 use mathlib.Core.Path.{◌≡◌, sym, ◌∙◌, subst}
 use Prim.Native.Nat.{ℕ, ◌≤◌, ◌<◌}
 use native.Mathlib.Omega.{arith}
@@ -11,7 +12,7 @@ use mir.Facts.{eqb_yes, eqb_no, ltb_yes, ltb_no}
 use Rattle.readers.specs.Choice.{◌or◌}
 use Rattle.readers.proofs.Choice.{either}
 use Rattle.marking.specs.Addresses.{lookup_at}
-use Rattle.std.specs.Prelude.{Err, Ok}
+use Rattle.std.specs.Prelude.{Err, Ok, Result}
 use Rattle.marking.specs.declared.addresses.Verdict.TheVariants.{Dead}
 use Rattle.marking.specs.declared.addresses.Verdict.TheVariants.{Live}
 use Rattle.marking.proofs.Lookups.{no_table, past-table, byte-zero, byte_one, byte-other}
@@ -25,7 +26,7 @@ live-no-failure n q = let z : ◌≡◌ {A = ℕ} 0 1 = cc in omega arith
 pub dead-no-failure : (n : ℕ) → Ok Dead ≡ Err n → ⊥
 dead-no-failure n q = let z : ◌≡◌ {A = ℕ} 0 1 = cc in omega arith
 
-same_number : (m n : ℕ) → Err m ≡ Err n → m ≡ n
+same_number : (m n : ℕ) → ◌≡◌ {A = Result Verdict ℕ} (Err m) (Err n) → m ≡ n
 same_number m n q = cc
 
 module _ (table : List ℕ) (index : ℕ) where

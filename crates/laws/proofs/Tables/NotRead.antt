@@ -122,7 +122,7 @@ module _ (n : ℕ) where
 
 -- ---- expressions and range lists, of a table that fails
 
-five-apart : (n : ℕ) → OneOf table_numbers n → Err 5 ≡ Err n → ⊥
+five-apart : (n : ℕ) → OneOf table_numbers n → ◌≡◌ {A = Result Verdict ℕ} (Err 5) (Err n) → ⊥
 unfolding is_one_of ◌or◌
 five-apart n o q = let e : n ≡ 5 = cc in not-one-of table_numbers n 5 e tt o
 
