@@ -4,7 +4,6 @@ use crate::marks::{Unit, letter, mark, unit_of};
 use marking::units::UnitMarks;
 use readers::offsets::UnitOffset;
 use rewriting::collect::{Collected, Counts};
-use rewriting::map::UnitOffset;
 use std::io;
 use std::io::Write;
 

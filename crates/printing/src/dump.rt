@@ -13,7 +13,6 @@ use readers::entries::{Entry, Step};
 use readers::fields::{Field, Operands};
 use readers::header::UnitHeader;
 use readers::layouts::ROW_ADDRESS_ADDRESS;
-use readers::lists::Cursor;
 use readers::operations::{ListEntry, ListStep};
 use std::io;
 use std::io::Write;
