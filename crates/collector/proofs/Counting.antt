@@ -13,7 +13,7 @@ use Rattle.rewriting.specs.Written.{run_bytes}
 use Rattle.rewriting.proofs.ListPass.Tables.{length_run, length-put}
 use Rattle.rewriting.proofs.WritePass.UnitWritten.{out-is}
 use Rattle.rewriting.specs.declared.collect.Counts.{Counts}
-use Rattle.std.specs.Prelude.{Err, Ok, Result}
+use Rattle.std.specs.Prelude.{Err, Ok}
 use Rattle.rewriting.specs.declared.collect.Collected.TheVariants.{Untouched, Rewritten}
 use Rattle.collector.specs.Call.{count_of, presence_of, numbers_of, presences_of, count_bytes, is_uncounted, accepted_counts, number_for, counts_for}
 

@@ -1,7 +1,7 @@
 -- What the calls for C answer: a number, and the counts as bytes (document 01, "collect": "An accepted answer says
 -- untouched or rewritten and gives the counts of entries, kept entries, map places and output bytes .. and of each list, or
 -- that it is absent").
-use Rattle.std.specs.Prelude.{ℕ, Bool, List, [], ◌∷◌, ◌++◌, ltb, Err, None, Ok, Option, Result, Some}
+use Rattle.std.specs.Prelude.{ℕ, Bool, List, [], ◌∷◌, ◌++◌, ltb, Err, None, Ok, Option, Some}
 use Rattle.readers.specs.Choice.{pick, zeros}
 use Rattle.marking.specs.Columns.{pad_to}
 use Rattle.marking.specs.Analysis.{sections}

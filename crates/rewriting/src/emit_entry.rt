@@ -21,7 +21,7 @@ ghost use Rattle.rewriting.specs.Inner.Plans.{Copies, Planned};
 ghost use Rattle.rewriting.specs.Inner.Emission.{Emits, Within, onward, Wide, number_refusal, offset_refusal, leb_form, Lent, ListsLent};
 
 use crate::lists::hinted_rank;
-use crate::map::{hinted_offset};
+use crate::map::hinted_offset;
 use crate::numbers::{put_bytes, put_number};
 use crate::siblings::sibling_offset;
 use readers::abbreviations::SpecStep;

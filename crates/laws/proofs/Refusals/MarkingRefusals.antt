@@ -22,7 +22,6 @@ use Rattle.readers.specs.declared.entries.Entry.{Entry as Entry'}
 use Rattle.laws.proofs.Refusals.ReaderRefusals.{is_one_of, are_of, one_of, wider}
 use Rattle.marking.specs.declared.units.UnitMarks.{UnitMarks}
 use Rattle.marking.specs.declared.addresses.Verdict.{Verdict}
-use Rattle.marking.specs.Resolution.{unit_marked}
 use Rattle.marking.specs.declared.addresses.Verdict.TheVariants.{Live, Dead}
 use Rattle.marking.specs.Roots.{Ranges, root_test}
 use Rattle.readers.specs.EntryAttributes.{Valued}

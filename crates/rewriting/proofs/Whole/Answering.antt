@@ -22,7 +22,6 @@ use Rattle.marking.specs.Resolution.{unit_marked}
 use Rattle.rewriting.specs.Rewriting.{Room, unit_of, Collected, untouched, rewritten, refused, no_lists, rows_collected, analysed_collected, declared_collected, header_collected, collect_of}
 use Rattle.rewriting.specs.Outputs.{Answer, room_by, answer_for, map_for, output_for, list_or, list_for, ranges_in, locations_in, strings_in}
 use Rattle.rewriting.specs.Inner.Leaving.{Accepts, Answers, left_by, header_task, task_of, MarkedTables, Tabled, Blank, marked_of}
-use Rattle.rewriting.specs.declared.collect.Counts.{Counts}
 use Rattle.rewriting.specs.declared.collect.Collected.TheVariants.{Untouched, Rewritten}
 use Rattle.rewriting.specs.declared.collect.Task.{Task}
 use Rattle.rewriting.specs.declared.collect.Task.TheVariants.{Done, Rewrite}

@@ -1,7 +1,6 @@
 -- `analyse_entry` answers the root test and the scan together, 4 first. Assumes nothing.
 use Rattle.readers.proofs.Refusing.{refused-none, read_some}
 use mathlib.Core.Path.{sym, ◌∙◌}
-use mathlib.Core.Logic.{⊎_elim}
 use Rattle.marking.specs.Analysis.{values_of_entry, test_of, root_of, names_of}
 use Rattle.marking.proofs.RangeSections.{rooted}
 use Rattle.marking.proofs.EntryAnswers.{no-root, judged, row-found, row-unread, row-refused}

@@ -1,5 +1,5 @@
 -- `attribute_of` answers by what is read of the value. Assumes nothing.
-use mathlib.Core.Path.{ap, ◌∙◌}
+use mathlib.Core.Path.{◌∙◌}
 use Rattle.marking.proofs.NamedAttributes.{of_none, of-more}
 use Rattle.marking.proofs.named.attribute_of.Goals as goal
 

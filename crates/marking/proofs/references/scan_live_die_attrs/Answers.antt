@@ -1,5 +1,5 @@
 -- `scan_live_die_attrs`: the invariant is that the whole is what the attributes from here on name, after what is in the table. Assumes nothing.
-use mathlib.Core.Path.{ap, ◌∙◌}
+use mathlib.Core.Path.{◌∙◌}
 use Rattle.readers.proofs.Refusing.{passed-on}
 use Rattle.marking.proofs.AttributeScans.{scanning-start, scanning-end, scanning-less, scanning-refused, scanning-on}
 use Rattle.marking.proofs.references.scan_live_die_attrs.Goals as goal

@@ -1,5 +1,5 @@
 -- `scan_loclist_at`: by where the list starts. Assumes nothing.
-use mathlib.Core.Path.{ap, ◌∙◌}
+use mathlib.Core.Path.{◌∙◌}
 use Rattle.readers.proofs.Refusing.{refused-none, read_some}
 use Rattle.marking.proofs.LocationLists.{list_at_lem, list-unresolved}
 use Rattle.marking.proofs.references.scan_loclist_at.Goals as goal

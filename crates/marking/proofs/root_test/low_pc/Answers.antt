@@ -4,7 +4,7 @@ use native.Mathlib.Omega.{arith}
 use borrow.Author.Tests.{tests}
 use Rattle.std.proofs.lemmas.Bool.Decides.{nat_tests}
 use Rattle.readers.specs.Choice.{pick, ◌and◌, ◌or◌}
-use Rattle.marking.specs.Roots.{low_pc, on_lookup}
+use Rattle.marking.specs.Roots.{low_pc}
 use Rattle.marking.proofs.root_test.low_pc.Goals as goal
 
 pub returns-then-is_tombstone : goal.returns-then-is_tombstone

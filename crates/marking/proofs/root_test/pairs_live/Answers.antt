@@ -1,5 +1,5 @@
 -- `pairs_live` answers by the list's pairs. The invariant: the answer from the start is the answer from here on. Assumes nothing.
-use mathlib.Core.Path.{ap, ◌∙◌}
+use mathlib.Core.Path.{◌∙◌}
 use Rattle.readers.proofs.Refusing.{refused-none, read_some}
 use Rattle.marking.proofs.RangePairs.{pairs_start, pairs_end, pairs-none, pairs-on, pairs-less, pairs-decided}
 use Rattle.marking.proofs.root_test.pairs_live.Goals as goal

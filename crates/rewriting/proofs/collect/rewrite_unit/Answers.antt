@@ -1,5 +1,4 @@
 -- `rewrite_unit` makes the lists, and writes where something is dead. Assumes nothing.
-use mathlib.Core.Path.{◌∙◌}
 use Rattle.readers.proofs.Refusing.{refused-none, read_some}
 use Rattle.rewriting.proofs.Whole.UnitAnswers.{short-unit, untouched-unit, written-unit}
 use Rattle.rewriting.proofs.collect.rewrite_unit.Goals as goal

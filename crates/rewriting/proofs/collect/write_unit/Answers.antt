@@ -1,5 +1,4 @@
 -- `write_unit` measures and fills the map, then its bounds, and writes header and items. Assumes nothing.
-use mathlib.Core.Path.{◌∙◌}
 use Rattle.readers.proofs.Refusing.{passed-on}
 use native.Mathlib.Omega.{arith}
 use Rattle.rewriting.proofs.WritePass.Emissions.{inside, emits-on, onward-to, onward-no}

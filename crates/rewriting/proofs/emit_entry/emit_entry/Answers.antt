@@ -1,6 +1,6 @@
 -- `emit_entry`: the invariant is that the answer from here on is that of all attributes. Assumes nothing.
 use Rattle.readers.proofs.Refusing.{passed-on}
-use mathlib.Core.Path.{refl, ap, ◌∙◌}
+use mathlib.Core.Path.{refl, ap}
 use Rattle.readers.specs.declared.cursor.Cursor.{Cursor}
 use Rattle.rewriting.proofs.WritePass.Emissions.{from_start, within-self, within-trans, within_on, within-stop, copied-front, copied-within, copied_on, emits-on, size_small, after_small, onward-to, onward-no}
 use Rattle.rewriting.proofs.WritePass.EntryEmits.{entering-begin, entry_done, entering-less, entering-end, entering-refused, entering-on}

@@ -1,6 +1,6 @@
 -- `emit_expression`: the invariant is that the answer from here on is that of the whole. Assumes nothing.
 use Rattle.readers.proofs.Refusing.{passed-on}
-use mathlib.Core.Path.{refl, ◌∙◌}
+use mathlib.Core.Path.{refl}
 use native.Mathlib.Omega.{arith}
 use Rattle.rewriting.proofs.MapPass.Exact.{are-bytes}
 use Rattle.marking.proofs.NextOffsets.{next-less}

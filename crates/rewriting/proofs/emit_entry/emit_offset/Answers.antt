@@ -1,6 +1,6 @@
 -- `emit_offset`: a new offset, or none. Assumes nothing.
 use Rattle.readers.proofs.Refusing.{refused-none, read_some}
-use mathlib.Core.Path.{refl, ◌∙◌}
+use mathlib.Core.Path.{refl}
 use Rattle.rewriting.proofs.WritePass.Emissions.{within-no, offset-some, offset-none}
 use Rattle.rewriting.proofs.emit_entry.emit_offset.Goals as goal
 

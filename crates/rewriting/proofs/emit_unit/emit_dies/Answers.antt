@@ -1,6 +1,6 @@
 -- `emit_dies`: what is said of the items from here on is said of all. Assumes nothing.
 use Rattle.readers.proofs.Refusing.{passed-on}
-use mathlib.Core.Path.{refl, ◌∙◌}
+use mathlib.Core.Path.{refl}
 use Rattle.rewriting.proofs.KeptPass.KeptPasses.{next-less}
 use Rattle.rewriting.proofs.WritePass.Emissions.{from_start, within-start, within_on, within-stop, copied-within, copied_on, emits-on, after_small, onward-to, onward-no}
 use Rattle.rewriting.proofs.WritePass.ItemEmits.{writing_start, writing-end, writing-refused, writing-entry, writing-terminator}
