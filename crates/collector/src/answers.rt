@@ -5,6 +5,7 @@ ghost use Rattle.marking.specs.Columns.{pad_to};
 ghost use Rattle.rewriting.specs.Written.{run_bytes};
 ghost use Rattle.collector.specs.Call.{count_of, presence_of, count_bytes, is_uncounted, accepted_counts, number_for, counts_for};
 
+use readers::refusal::Refusal;
 use readers::tables::clear_bytes;
 use rewriting::collect::{Collected, Counts};
 use rewriting::numbers::put_big_endian;
@@ -89,7 +90,7 @@ fn accepted(number: u64, uncounted: u64, c: Counts, counts: &mut [u8]) -> u64
 }
 
 // The number of an answer, and its counts; zeros after a refusal, and where they have no room.
-pub(crate) fn give(answer: Result<Collected, u8>, counts: &mut [u8]) -> u64
+pub(crate) fn give(answer: Result<Collected, Refusal>, counts: &mut [u8]) -> u64
     ensures answer { result ≡ number_for (length counts.old) answer }
     ensures counts { counts.new ≡ counts_for (length counts.old) answer }
 {

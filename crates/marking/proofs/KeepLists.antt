@@ -19,7 +19,7 @@ use Rattle.std.proofs.Common.{Equal, Err}
 use Rattle.std.proofs.lemmas.List.{get_or_default}
 use Rattle.readers.specs.Choice.{pick, ◌and◌}
 use Rattle.readers.proofs.Lebs.{Bytes}
-use Rattle.marking.specs.KeepList.{KeepList, tags_in, keep_in, is_treatment, each_treats, ascends, keep_refusal}
+use Rattle.marking.specs.KeepList.{KeepList, tags_in, keep_in, is_treatment, each_treats, ascends, keep_refusal, list_answer}
 use Rattle.marking.specs.KeepList.{treatment_in, treated}
 use Rattle.marking.specs.Resolution.{Ascending}
 use Rattle.std.specs.Prelude.{Ok, Result}
@@ -100,8 +100,8 @@ ascends-ascending low (t ∷ ts) q =
 -- ---- a list that is taken
 
 module _ (tags ks : List ℕ) where
-  pub refused-count : (length ks ≡ length tags / 2 → ⊥) → 19 ≡ keep_refusal (keep_in tags ks)
-  unfolding keep_refusal pick ◌and◌
+  pub refused-count : (length ks ≡ length tags / 2 → ⊥) → Err 19 ≡ list_answer (keep_refusal (keep_in tags ks))
+  unfolding list_answer keep_refusal pick ◌and◌
   refused-count h = rw (tags-count tags, ne_eqb (length ks) (length tags / 2) h)
 
   module _ (counted : length ks ≡ length tags / 2) (b : Bool) (told : b ≡ each_treats ks) where
@@ -109,17 +109,17 @@ module _ (tags ks : List ℕ) where
     unfolding keep_refusal ◌and◌
     judged = rw (tags-count tags, eq-eqb (length ks) (length tags / 2) counted, told)
 
-    pub refused-treatment : b ≡ false → 19 ≡ keep_refusal (keep_in tags ks)
-    unfolding pick
+    pub refused-treatment : b ≡ false → Err 19 ≡ list_answer (keep_refusal (keep_in tags ks))
+    unfolding list_answer pick
     refused-treatment q = rw (judged, q)
 
     module _ (treats : b ≡ true) (o : Bool) (ordered : o ≡ ascends 0 (tags_in tags)) where
-      pub refused-order : o ≡ false → 20 ≡ keep_refusal (keep_in tags ks)
-      unfolding pick
+      pub refused-order : o ≡ false → Err 20 ≡ list_answer (keep_refusal (keep_in tags ks))
+      unfolding list_answer pick
       refused-order q = rw (judged, treats, sym ordered, q)
 
-      pub refused_none : o ≡ true → 0 ≡ keep_refusal (keep_in tags ks)
-      unfolding pick
+      pub refused_none : o ≡ true → Ok tt ≡ list_answer (keep_refusal (keep_in tags ks))
+      unfolding list_answer pick
       refused_none q = rw (judged, treats, sym ordered, q)
 
 pub record Taken (keep : KeepList) : Type 0 where

@@ -2,14 +2,16 @@
 use mathlib.Core.Path.{◌≡◌, refl, ap, sym, ◌∙◌}
 use Prim.Native.Nat.{ℕ}
 use native.Mathlib.Omega.{arith}
+use mathlib.Core.Bool.{Bool, true, false}
 use mathlib.Core.List.{List}
 use lib.Dec.{eqb}
 use mir.Facts.{eqb_yes, eqb_no, yes_eqb, no_eqb}
 use Rattle.readers.specs.Header.{header_of}
 use Rattle.readers.specs.declared.header.UnitHeader.{UnitHeader}
 use Rattle.std.specs.Prelude.{Err, Ok, Option, Result, Some}
+use Rattle.readers.specs.Choice.{pick}
 use Rattle.readers.proofs.Choice.{pick_yes, pick_no, pick-either}
-use Rattle.marking.specs.KeepList.{keep_refusal}
+use Rattle.marking.specs.KeepList.{keep_refusal, list_answer}
 use Rattle.marking.specs.Analysis.{Sections, Rooms, EntryRow, analysed, after_list, header_by, header_analysed, analysis_of}
 
 pub after_list_lem {κ} : (P : Result (Option UnitHeader) ℕ → Type κ) (n : ℕ) (r : Result (Option UnitHeader) ℕ) → (n ≡ 0 → P r) → ((n ≡ 0 → ⊥) → P (Err n)) → P (after_list n r)
@@ -17,13 +19,41 @@ unfolding after_list
 after_list_lem P n r f g =
     pick-either P (eqb n 0) r (Err n) (λ t. f (eqb_yes {a = n} {b = 0} t)) (λ t. g (eqb_no {a = n} {b = 0} t))
 
-pub list-refused : (n m : ℕ) (r : Result (Option UnitHeader) ℕ) → n ≡ m → (n ≡ 0 → ⊥) → Err n ≡ after_list m r
-unfolding after_list
-list-refused n m r q z = ap Err q ∙ sym (pick_no _ _ _ (no_eqb {a = m} {b = 0} (λ e. z (q ∙ e))))
+abbrev refusal_or : ℕ → Result (Unit {0}) ℕ → ℕ
+refusal_or d (Ok u) = d
+refusal_or d (Err n) = n
 
-pub list-taken : (n m : ℕ) (r o : Result (Option UnitHeader) ℕ) → n ≡ m → n ≡ 0 → o ≡ r → o ≡ after_list m r
-unfolding after_list
-list-taken n m r o q z e = e ∙ sym (pick_yes _ _ _ (yes_eqb {a = m} {b = 0} (sym q ∙ z)))
+same_refusal : (x n : ℕ) → ◌≡◌ {A = Result (Unit {0}) ℕ} (Err x) (Err n) → x ≡ n
+same_refusal x n q = ap (refusal_or x) q
+
+refused-by : (b : Bool) (n x : ℕ) (r s : Result (Option UnitHeader) ℕ) (o : Result (Unit {0}) ℕ)
+    → o ≡ pick b (Ok tt) (Err n) → o ≡ Err x → s ≡ Err x → s ≡ pick b r (Err n)
+unfolding pick
+refused-by true n x r s o e f g =
+    let q : Ok tt ≡ Err x = sym e ∙ f in
+    let z : ◌≡◌ {A = ℕ} 0 1 = cc in
+    absurd (omega arith)
+refused-by false n x r s o e f g = g ∙ ap Err (same_refusal _ _ (sym f ∙ e))
+
+taken-by : (b : Bool) (n : ℕ) (u : Unit {0}) (r s : Result (Option UnitHeader) ℕ) (o : Result (Unit {0}) ℕ)
+    → o ≡ pick b (Ok tt) (Err n) → o ≡ Ok u → s ≡ r → s ≡ pick b r (Err n)
+unfolding pick
+taken-by true n u r s o e f g = g
+taken-by false n u r s o e f g =
+    let q : Err n ≡ Ok u = sym e ∙ f in
+    let z : ◌≡◌ {A = ℕ} 0 1 = cc in
+    absurd (omega arith)
+
+-- a list that is refused, and one that is taken
+pub list-refused : (n x : ℕ) (r s : Result (Option UnitHeader) ℕ) (o : Result (Unit {0}) ℕ)
+    → o ≡ list_answer n → o ≡ Err x → s ≡ Err x → s ≡ after_list n r
+unfolding after_list list_answer
+list-refused n x r s o e f g = refused-by (eqb n 0) n x r s o e f g
+
+pub list-taken : (n : ℕ) (u : Unit {0}) (r s : Result (Option UnitHeader) ℕ) (o : Result (Unit {0}) ℕ)
+    → o ≡ list_answer n → o ≡ Ok u → s ≡ r → s ≡ after_list n r
+unfolding after_list list_answer
+list-taken n u r s o e f g = taken-by (eqb n 0) n u r s o e f g
 
 -- a unit's header is read behind a list that is taken
 pub after-listed : (n : ℕ) (r : Result (Option UnitHeader) ℕ) (h : UnitHeader) → after_list n r ≡ Ok (Some h) → (r ≡ Ok (Some h)) × (n ≡ 0)

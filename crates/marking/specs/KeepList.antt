@@ -47,6 +47,10 @@ keep_refusal keep =
     (pick (ascends 0 keep.tags) 0 20)
     19
 
+-- what judging a list answers, by its refusal's number or 0
+unfoldable pub list_answer : ℕ → Result (Unit {0}) ℕ
+list_answer n = pick (eqb n 0) (Ok tt) (Err n)
+
 -- ---- what a list does
 
 -- the treatment of a tag, 0 where it is not listed

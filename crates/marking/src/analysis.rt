@@ -13,7 +13,7 @@ ghost use Rattle.marking.specs.Columns.{index_after, answer_of};
 ghost use Rattle.marking.specs.Inner.Columns.{AnalysisInput, Outcome, headed, refusal_of, entry_answer, entry_table, left_by, unit_found, root_number};
 
 use crate::addresses::Verdict;
-use crate::keep_list::{keep_refusal, treat, treatment};
+use crate::keep_list::{judge, treat, treatment};
 use crate::references::{EntryScan, scan_live_die_attrs};
 use crate::root_test::{base_after, is_root};
 use crate::setting::Setting;
@@ -24,6 +24,7 @@ use readers::entries::{EntryHead, HeadStep, Nesting};
 use readers::header::{UnitHeader, unit_header, unit_part};
 use readers::lists::list_base;
 use readers::offsets::EntryIndex;
+use readers::refusal::{Cause, Refusal};
 use readers::tables::{clear, clear_bytes};
 
 // What is found of an entry: 1 for a root, else 0, the place past its references in the table, and the cursor past it.
@@ -44,26 +45,26 @@ pub struct Analysis {
 // The header of a section's first unit, as it was read, and the analysis of its entries.
 #[derive(Clone, Copy)]
 pub struct UnitAnalysis {
-    pub header: Result<Option<UnitHeader>, u8>,
-    pub analysis: Result<Analysis, u8>,
+    pub header: Result<Option<UnitHeader>, Refusal>,
+    pub analysis: Result<Analysis, Refusal>,
 }
 
 // What is to be analysed: a unit whose declarations were checked, or the answer where there is none.
 #[derive(Clone, Copy)]
 pub enum UnitFound {
     Unit(UnitHeader),
-    Answered(Result<Analysis, u8>),
+    Answered(Result<Analysis, Refusal>),
 }
 
 // The number of a refusal of an entry: 4 where its values can't be read, which comes before any other.
-fn refusal(unit: &[u8], abbreviations: &[u8], x: EntryHead, e: Encoding, n: u8) -> u8
+fn refusal(unit: &[u8], abbreviations: &[u8], x: EntryHead, e: Encoding, n: Refusal) -> Refusal
     ensures { result ≡ refusal_of (head_end e abbreviations.now unit.now x) n }
 {
     let declaration = x.declaration;
     let values = x.values;
     match values.past_values(unit, abbreviations, declaration.attributes, e) {
         Some(_) => n,
-        None => 4,
+        None => Refusal(Cause::Entry),
     }
 }
 
@@ -79,7 +80,7 @@ fn root_of(
     e: Encoding,
     tags: &[u8],
     treatments: &[u8],
-) -> Result<Verdict, u8>
+) -> Result<Verdict, Refusal>
     requires { keep_refusal (keep_in tags.now treatments.now) ≡ 0 }
     ensures { let lists = ranges_by ranges.now addresses.now setting.ranges_base rnglists_base in
         let attributes = entry_values e abbreviations.now x.declaration.attributes.at unit.now
@@ -130,7 +131,7 @@ fn analyse_entry(
     at: usize,
     tags: &[u8],
     treatments: &[u8],
-) -> Result<EntryAnalysis, u8>
+) -> Result<EntryAnalysis, Refusal>
     requires { keep_refusal (keep_in tags.now treatments.now) ≡ 0 }
     ensures { let lent = sections abbreviations.now locations.now ranges.now
         addresses.now ranges.now (keep_in tags.now treatments.now) setting in
@@ -177,7 +178,7 @@ fn analyse_entry(
             return Err(refusal(unit, abbreviations, x, e, n));
         }
     };
-    let next = scan.end.ok_or(4)?;
+    let next = scan.end.ok_or(Refusal(Cause::Entry))?;
     Ok(EntryAnalysis {
         root,
         to: scan.place,
@@ -206,7 +207,7 @@ fn analyse_entries(
     targets: &mut [u64],
     tags: &[u8],
     treatments: &[u8],
-) -> Result<Analysis, u8>
+) -> Result<Analysis, Refusal>
     requires { AnalysisInput abbreviations.now index.now from unit.now entry_room reference_room
         offsets.old parents.old roots.old reference_ends.old targets.old
         (keep_in tags.now treatments.now) }
@@ -228,10 +229,10 @@ fn analyse_entries(
     let mut loclists_base = list_base(e);
     // No for: the reader moves the cursor on, and not every step is an entry.
     loop {
-        match c.entry_head(unit, abbreviations, from, index).ok_or(4)? {
+        match c.entry_head(unit, abbreviations, from, index).ok_or(Refusal(Cause::Entry))? {
             HeadStep::Entry(x) => {
                 if count >= entry_room {
-                    return Err(refusal(unit, abbreviations, x, e, 10));
+                    return Err(refusal(unit, abbreviations, x, e, Refusal(Cause::EntryTableFull)));
                 }
                 let declaration = x.declaration;
                 let specs = declaration.attributes;
@@ -278,7 +279,7 @@ fn analyse_entries(
                     treatments,
                 )?;
                 if place > reference_room {
-                    return Err(11);
+                    return Err(Refusal(Cause::ReferenceTableFull));
                 }
                 offsets[count] = offset.0;
                 parents[count] = parent.0;
@@ -339,13 +340,13 @@ pub fn clear_columns(
 
 // Makes every column zeros after a refusal.
 fn clear_refused(
-    answer: Result<Analysis, u8>,
+    answer: Result<Analysis, Refusal>,
     offsets: &mut [u64],
     parents: &mut [u64],
     roots: &mut [u8],
     reference_ends: &mut [u64],
     targets: &mut [u64],
-) -> Result<Analysis, u8>
+) -> Result<Analysis, Refusal>
     ensures { (result ≡ answer)
         × ((offsets.new ≡ left_by answer offsets.old)
         × ((parents.new ≡ left_by answer parents.old)
@@ -392,7 +393,7 @@ fn analyse_unit<'a>(
     debug_ranges: &'a [u8],
     tags: &[u8],
     treatments: &[u8],
-) -> Result<Analysis, u8>
+) -> Result<Analysis, Refusal>
     requires { AnalysisInput abbreviations.now index.now h.abbreviations (take h.end section.now)
         entry_room reference_room offsets.old parents.old roots.old reference_ends.old targets.old
         (keep_in tags.now treatments.now) }
@@ -439,18 +440,18 @@ fn analyse_unit<'a>(
 // The unit of a header, its declarations checked and the index of them filled: a refusal of the header, or of the keep
 // list before it, then 3 of the abbreviations. An empty section has no entries.
 fn find_unit(
-    header: Result<Option<UnitHeader>, u8>,
+    header: &Result<Option<UnitHeader>, Refusal>,
     abbreviations: &[u8],
     index: &mut [u64],
 ) -> UnitFound
-    ensures { (result ≡ unit_found abbreviations.now header)
-        × (index.new ≡ index_after abbreviations.now header (length index.old)) }
+    ensures { (result ≡ unit_found abbreviations.now header.now)
+        × (index.new ≡ index_after abbreviations.now header.now (length index.old)) }
 {
     clear(index);
     let first = match header {
         Ok(first) => first,
         Err(n) => {
-            return UnitFound::Answered(Err(n));
+            return UnitFound::Answered(Err(*n));
         }
     };
     match first {
@@ -461,9 +462,9 @@ fn find_unit(
         Some(h) => {
             let Checked::Accepted = check_abbreviations(abbreviations, h.abbreviations, index)
             else {
-                return UnitFound::Answered(Err(3));
+                return UnitFound::Answered(Err(Refusal(Cause::Abbreviations)));
             };
-            UnitFound::Unit(h)
+            UnitFound::Unit(*h)
         }
     }
 }
@@ -475,14 +476,11 @@ fn listed_header(
     big_endian: bool,
     tags: &[u8],
     treatments: &[u8],
-) -> Result<Option<UnitHeader>, u8>
+) -> Result<Option<UnitHeader>, Refusal>
     ensures { result ≡ after_list (keep_refusal (keep_in tags.now treatments.now))
         (header_of big_endian section.now) }
 {
-    let n = keep_refusal(tags, treatments);
-    if n != 0 {
-        return Err(n);
-    }
+    judge(tags, treatments)?;
     unit_header(section, big_endian)
 }
 
@@ -528,7 +526,7 @@ pub fn analyse<'a>(
 {
     let header = listed_header(section, setting.big_endian, tags, treatments);
     clear_columns(offsets, parents, roots, reference_ends, targets);
-    match find_unit(header, abbreviations, index) {
+    match find_unit(&header, abbreviations, index) {
         UnitFound::Answered(analysis) => UnitAnalysis { header, analysis },
         UnitFound::Unit(h) => {
             let room = entry_room(

@@ -1,9 +1,10 @@
 // A keep list: tags in ascending order, two big-endian bytes each, and for each tag a byte, its treatment.
 ghost use Rattle.std.specs.Prelude.{◌≡◌, ◌+◌, ◌*◌, get_or};
-ghost use Rattle.marking.specs.KeepList.{tags_in, keep_in, is_treatment, each_treats, ascends, keep_refusal};
+ghost use Rattle.marking.specs.KeepList.{tags_in, keep_in, is_treatment, each_treats, ascends, keep_refusal, list_answer};
 ghost use Rattle.marking.specs.KeepList.{treatment_of, treated};
 
 use crate::addresses::Verdict;
+use readers::refusal::{Cause, Refusal};
 
 // The treatments of a tag: entries that have it are always roots, or never.
 const ALWAYS_ROOT: u8 = 1;
@@ -51,18 +52,17 @@ fn tags_ascend(tags: &[u8]) -> bool
     true
 }
 
-// The number that a list is refused with: 19 of its treatments, over the whole list, then 20 of its tags; 0 where it is
-// taken.
-pub(crate) fn keep_refusal(tags: &[u8], treatments: &[u8]) -> u8
-    ensures { result ≡ keep_refusal (keep_in tags.now treatments.now) }
+// Refuses a list with 19 for its treatments, over the whole list, then with 20 for its tags.
+pub(crate) fn judge(tags: &[u8], treatments: &[u8]) -> Result<(), Refusal>
+    ensures { result ≡ list_answer (keep_refusal (keep_in tags.now treatments.now)) }
 {
     if treatments.len() != tags.len() / TAG_SIZE || !each_treats(treatments) {
-        return 19;
+        return Err(Refusal(Cause::Treatment));
     }
     if !tags_ascend(tags) {
-        return 20;
+        return Err(Refusal(Cause::TagOrder));
     }
-    0
+    Ok(())
 }
 
 // The treatment of a tag, by halves.
@@ -78,7 +78,7 @@ pub(crate) fn treatment(tags: &[u8], treatments: &[u8], tag: u64) -> u8
 }
 
 // What a treatment makes of the root test's verdict. A refusal stays one.
-pub(crate) fn treat(verdict: Result<Verdict, u8>, k: u8) -> Result<Verdict, u8>
+pub(crate) fn treat(verdict: Result<Verdict, Refusal>, k: u8) -> Result<Verdict, Refusal>
     ensures { result ≡ treated k verdict }
 {
     match verdict? {

@@ -10,6 +10,7 @@ ghost use Rattle.marking.specs.Inner.Passes.{PairsFit, start_mark, names_first, 
 use crate::rules::{along_at, down, up_at};
 use crate::spread::spread;
 use readers::offsets::NO_PARENT;
+use readers::refusal::{Cause, Refusal};
 use readers::tables::clear_bytes;
 
 // ---- what is taken
@@ -154,14 +155,14 @@ pub(crate) fn mark_with(
     marks: &mut [u8],
     work: &mut [u32],
     reference_ends: &[u64],
-) -> Result<usize, u8>
+) -> Result<usize, Refusal>
     ensures { let lent = graph parents.now pairs.now roots.now in
         (result ≡ mark_answer lent (length marks.old))
         × (marks.new ≡ end_marks lent (length marks.old)) }
 {
     if !takes(parents, pairs, roots, marks.len()) {
         clear_bytes(marks);
-        return Err(16);
+        return Err(Refusal(Cause::Graph));
     }
     start(roots, marks);
     spread(parents, pairs, marks, work, reference_ends);
@@ -178,7 +179,7 @@ pub(crate) fn mark_with(
 // round that raises no mark is the last. A chain of references is followed in one round where its pairs stand in its
 // order, one link a round where they stand against it. A mark rises at most twice, so n entries take at most 2n + 1
 // rounds. The marks of a unit are made by `mark_with`.
-pub fn mark(parents: &[u64], pairs: &[u64], roots: &[u8], marks: &mut [u8]) -> Result<usize, u8>
+pub fn mark(parents: &[u64], pairs: &[u64], roots: &[u8], marks: &mut [u8]) -> Result<usize, Refusal>
     ensures { let lent = graph parents.now pairs.now roots.now in
         (result ≡ mark_answer lent (length marks.old))
         × (marks.new ≡ end_marks lent (length marks.old)) }

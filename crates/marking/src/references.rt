@@ -24,6 +24,7 @@ use readers::expressions::{Reference, walk_expression};
 use readers::lists::{list_offset, list_start};
 use readers::offsets::UnitOffset;
 use readers::operations::{ListEntry, ListStep};
+use readers::refusal::{Cause, Refusal};
 
 // A scan answers the place past its last reference in the table, past the table's end where it has no room for all; or
 // the number of a refusal. That of an entry also answers where the values of its attributes end.
@@ -64,16 +65,16 @@ fn put_references(s: &[u8], e: Encoding, targets: &mut [u64], at: usize) -> usiz
 }
 
 // The references of an expression: 5 where it is unreadable, 7 where it names something by an offset in the section.
-fn scan_expression(s: &[u8], e: Encoding, targets: &mut [u64], at: usize) -> Result<usize, u8>
+fn scan_expression(s: &[u8], e: Encoding, targets: &mut [u64], at: usize) -> Result<usize, Refusal>
     ensures { let found = expression_found e s.now in
         (result ≡ scanned_to (length targets.old) at found)
         × (targets.new ≡ table_after targets.old at found) }
 {
     let Some((references, absolute)) = walk_expression(s, e) else {
-        return Err(5);
+        return Err(Refusal(Cause::ListOrExpression));
     };
     if absolute {
-        return Err(7);
+        return Err(Refusal(Cause::AbsoluteReference));
     }
     if references == 0 {
         return Ok(at);
@@ -89,7 +90,7 @@ fn scan_location(
     e: Encoding,
     targets: &mut [u64],
     at: usize,
-) -> Result<usize, u8>
+) -> Result<usize, Refusal>
     ensures { let found = location_found e s.now x in
         (result ≡ scanned_to (length targets.old) at found)
         × (targets.new ≡ table_after targets.old at found) }
@@ -112,7 +113,7 @@ fn scan_loclist_for_refs(
     e: Encoding,
     targets: &mut [u64],
     at: usize,
-) -> Result<usize, u8>
+) -> Result<usize, Refusal>
     ensures { let found = list_found e s.now (Some start) in
         (result ≡ scanned_to (length targets.old) at found)
         × (targets.new ≡ table_after targets.old at found) }
@@ -121,7 +122,7 @@ fn scan_loclist_for_refs(
     let mut to = at;
     // No for: the reader moves the cursor on.
     loop {
-        match c.list_entry(s, true, e).ok_or(5)? {
+        match c.list_entry(s, true, e).ok_or(Refusal(Cause::ListOrExpression))? {
             ListStep::Entry(x) => {
                 let next = x.next;
                 to = scan_location(s, x, e, targets, to)?;
@@ -141,12 +142,12 @@ fn scan_loclist_at(
     e: Encoding,
     targets: &mut [u64],
     at: usize,
-) -> Result<usize, u8>
+) -> Result<usize, Refusal>
     ensures { let found = list_found e s.now start in
         (result ≡ scanned_to (length targets.old) at found)
         × (targets.new ≡ table_after targets.old at found) }
 {
-    scan_loclist_for_refs(s, start.ok_or(5)?, e, targets, at)
+    scan_loclist_for_refs(s, start.ok_or(Refusal(Cause::ListOrExpression))?, e, targets, at)
 }
 
 // The references of an attribute.
@@ -158,7 +159,7 @@ fn scan_attribute(
     e: Encoding,
     targets: &mut [u64],
     at: usize,
-) -> Result<usize, u8>
+) -> Result<usize, Refusal>
     ensures { let lists = locations_by unit.now locations.now loclists_base in
         let found = attribute_found e lists (valued_by a) in
         (result ≡ scanned_to (length targets.old) at found)
@@ -171,7 +172,7 @@ fn scan_attribute(
         return Ok(at);
     }
     if a.declared == DW_FORM_ref_addr {
-        return Err(7);
+        return Err(Refusal(Cause::AbsoluteReference));
     }
     if form == DW_FORM_exprloc {
         return scan_expression(field.expression(unit), e, targets, at);
@@ -226,7 +227,7 @@ pub fn scan_live_die_attrs(
     e: Encoding,
     targets: &mut [u64],
     at: usize,
-) -> Result<EntryScan, u8>
+) -> Result<EntryScan, Refusal>
     ensures { let lists = locations_by unit.now locations.now loclists_base in
         let attributes = entry_values e abbreviations.now specs.at unit.now values.at in
         let end = values_at e abbreviations.now specs.at unit.now values.at in

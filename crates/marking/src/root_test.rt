@@ -23,6 +23,7 @@ use readers::fields::Operands;
 use readers::layouts::{ROW_ADDRESS, ROW_ADDRESS_ADDRESS, ROW_ADDRESS_INDEX};
 use readers::lists::{list_offset, list_start};
 use readers::operations::{ListEntry, ListStep, Operation};
+use readers::refusal::{Cause, Refusal};
 
 // ---- an address, a list, an expression
 
@@ -30,7 +31,7 @@ use readers::operations::{ListEntry, ListStep, Operation};
 #[derive(Clone, Copy)]
 pub enum RangeTurn {
     On(bool),
-    Decided(Result<Verdict, u8>),
+    Decided(Result<Verdict, Refusal>),
 }
 
 // An entry of a range list, whose latest base was dead or not: one turn of gc.rs's `rnglist_has_live_entry`, whose loop
@@ -75,13 +76,13 @@ pub fn range_entry(table: &[u8], dead: bool, x: ListEntry, e: Encoding) -> Range
 }
 
 // The older test of a range list of version 5: base_address is skipped, every other entry is live.
-pub fn ranges_has_live_entry(ranges: &[u8], start: Cursor, e: Encoding) -> Result<Verdict, u8>
+pub fn ranges_has_live_entry(ranges: &[u8], start: Cursor, e: Encoding) -> Result<Verdict, Refusal>
     ensures { result ≡ older_live e ranges.now (Some start) }
 {
     let mut c = start;
     // No for: the reader moves the cursor on.
     loop {
-        match c.list_entry(ranges, false, e).ok_or(5)? {
+        match c.list_entry(ranges, false, e).ok_or(Refusal(Cause::ListOrExpression))? {
             ListStep::Entry(x) => {
                 if x.kind != DW_RLE_base_address {
                     return Ok(Verdict::Live);
@@ -120,14 +121,14 @@ pub fn range_pair(dead: bool, r: Operands, e: Encoding) -> RangeTurn
 }
 
 // The test of a range list of version 4, by its pairs.
-pub fn pairs_live(ranges: &[u8], start: Cursor, e: Encoding) -> Result<Verdict, u8>
+pub fn pairs_live(ranges: &[u8], start: Cursor, e: Encoding) -> Result<Verdict, Refusal>
     ensures { result ≡ pairs_live e ranges.now (Some start) }
 {
     let mut c = start;
     let mut base_dead = false;
     // No for: the reader moves the cursor on.
     while c.at < ranges.len() {
-        let r = c.row(ranges, ROW_ADDRESS_ADDRESS, e).ok_or(5)?;
+        let r = c.row(ranges, ROW_ADDRESS_ADDRESS, e).ok_or(Refusal(Cause::ListOrExpression))?;
         let third = r.third;
         match range_pair(base_dead, r, e) {
             RangeTurn::On(flag) => {
@@ -150,7 +151,7 @@ pub fn operation_live(
     table: &[u8],
     fixed_addresses: bool,
     e: Encoding,
-) -> Result<Verdict, u8>
+) -> Result<Verdict, Refusal>
     ensures { result ≡ operation_live e fixed_addresses table.now op }
 {
     let first = op.first;
@@ -170,14 +171,14 @@ pub fn location_expr_live(
     table: &[u8],
     fixed_addresses: bool,
     e: Encoding,
-) -> Result<Verdict, u8>
+) -> Result<Verdict, Refusal>
     ensures { result ≡ location_live e fixed_addresses table.now s.now }
 {
     let mut c = Cursor { at: 0 };
     let mut live = false;
     // No for: the reader moves the cursor on.
     while c.at < s.len() {
-        let op = c.operation(s, e).ok_or(5)?;
+        let op = c.operation(s, e).ok_or(Refusal(Cause::ListOrExpression))?;
         let next = op.next;
         match operation_live(op, table, fixed_addresses, e)? {
             Verdict::Live => {
@@ -194,7 +195,7 @@ pub fn location_expr_live(
 }
 
 // A low_pc: an index asks the table, an address the tombstone test, any other form is live.
-pub fn low_pc(v: Attribute, table: &[u8], e: Encoding) -> Result<Verdict, u8>
+pub fn low_pc(v: Attribute, table: &[u8], e: Encoding) -> Result<Verdict, Refusal>
     ensures { result ≡ low_pc e table.now v }
 {
     let field = v.field;
@@ -224,7 +225,7 @@ pub fn low_pcs(
     values: Cursor,
     table: &[u8],
     e: Encoding,
-) -> Result<Verdict, u8>
+) -> Result<Verdict, Refusal>
     ensures { let attributes = entry_values e abbreviations.now specs.at unit.now values.at in
         result ≡ low_pcs e table.now attributes }
 {
@@ -258,7 +259,7 @@ pub fn locations_live(
     table: &[u8],
     fixed_addresses: bool,
     e: Encoding,
-) -> Result<Verdict, u8>
+) -> Result<Verdict, Refusal>
     ensures { let attributes = entry_values e abbreviations.now specs.at unit.now values.at in
         result ≡ locations e fixed_addresses table.now unit.now attributes }
 {
@@ -293,7 +294,7 @@ pub fn other_ranges(
     ranges: &[u8],
     ranges_base: u64,
     e: Encoding,
-) -> Result<Verdict, u8>
+) -> Result<Verdict, Refusal>
     ensures { result ≡ other_ranges e ranges.now ranges_base v }
 {
     let field = v.field;
@@ -329,7 +330,7 @@ pub fn first_ranges(
     ranges_base: u64,
     rnglists_base: u64,
     e: Encoding,
-) -> Result<Verdict, u8>
+) -> Result<Verdict, Refusal>
     ensures { let lists = ranges_by ranges.now table.now ranges_base rnglists_base in
         let attributes = entry_values e abbreviations.now specs.at unit.now values.at in
         result ≡ first_ranges e lists attributes }
@@ -358,7 +359,7 @@ pub fn first_ranges(
                     let mut place = start;
                     let mut dead = false;
                     loop {
-                        match place.list_entry(ranges, false, e).ok_or(5)? {
+                        match place.list_entry(ranges, false, e).ok_or(Refusal(Cause::ListOrExpression))? {
                             ListStep::Entry(x) => {
                                 let after = x.next;
                                 match range_entry(table, dead, x, e) {
@@ -407,7 +408,7 @@ pub fn is_root(
     setting: Setting,
     rnglists_base: u64,
     e: Encoding,
-) -> Result<Verdict, u8>
+) -> Result<Verdict, Refusal>
     ensures { let lists = ranges_by ranges.now table.now setting.ranges_base rnglists_base in
         let attributes = entry_values e abbreviations.now specs.at unit.now values.at in
         result ≡ root_test e lists setting.fixed_addresses unit.now tag attributes }

@@ -13,6 +13,7 @@ use crate::marks::mark_with;
 use crate::setting::Setting;
 use readers::header::UnitHeader;
 use readers::offsets::{EntryIndex, UnitOffset};
+use readers::refusal::Refusal;
 use readers::tables::{clear, clear_bytes, clear_indexes};
 
 // What marking a unit counts: its entries, and those that are kept.
@@ -25,8 +26,8 @@ pub struct UnitMarks {
 // The header of a section's first unit, as it was read, and the marks of its entries.
 #[derive(Clone, Copy)]
 pub struct UnitMarking {
-    pub header: Result<Option<UnitHeader>, u8>,
-    pub marks: Result<UnitMarks, u8>,
+    pub header: Result<Option<UnitHeader>, Refusal>,
+    pub marks: Result<UnitMarks, Refusal>,
 }
 
 // The entry that starts at an offset, among those of entries in ascending order.
@@ -219,7 +220,7 @@ fn mark_rows(
     targets: &[u64],
     pairs: &mut [u64],
     work: &mut [u32],
-) -> Result<UnitMarks, u8>
+) -> Result<UnitMarks, Refusal>
     requires { Markable offsets.now parents.now roots.now reference_ends.now entries marks.old
         targets.now pairs.old }
     ensures answer { (rows : List EntryRow)

@@ -10,6 +10,7 @@ use crate::lengths::size;
 use crate::marks::{Unit, unit_of};
 use marking::setting::Setting;
 use readers::cursor::Cursor;
+use readers::refusal::Refusal;
 use rewriting::collect::{Collected, Counts};
 use std::io;
 use std::io::Write;
@@ -110,7 +111,7 @@ const BYTE: u8 = 0xa5;
 const NUMBER: u64 = 0xa5a5_a5a5_a5a5_a5a5;
 
 // The answer for the bundle's unit.
-fn collect(settings: Settings<'_>, u: Unit<'_>, a: &mut Arrays) -> Result<Collected, u8> {
+fn collect(settings: Settings<'_>, u: Unit<'_>, a: &mut Arrays) -> Result<Collected, Refusal> {
     rewriting::collect::collect(
         u.section,
         u.abbreviations,
@@ -190,7 +191,7 @@ fn counts(to: &mut impl Write, answer: &str, c: Counts) -> io::Result<()> {
     writeln!(to)
 }
 
-fn answered(to: &mut impl Write, answer: Result<Collected, u8>) -> io::Result<()> {
+fn answered(to: &mut impl Write, answer: Result<Collected, Refusal>) -> io::Result<()> {
     match answer {
         Ok(Collected::Untouched(c)) => counts(to, "untouched", c),
         Ok(Collected::Rewritten(c)) => counts(to, "rewritten", c),

@@ -3,6 +3,7 @@
 use crate::Told;
 use bundle::{Bundle, section_bytes};
 use marking::units::UnitMarks;
+use readers::refusal::Refusal;
 use std::io;
 use std::io::Write;
 
@@ -44,7 +45,7 @@ pub fn letter(mark: u8) -> char {
 
 // Marks a unit, with tables of 8,192 references and as many entries as the caller has offsets and marks for, 2,048 at
 // most.
-pub fn mark(u: Unit<'_>, offsets: &mut [u64], marks: &mut [u8]) -> Result<UnitMarks, u8> {
+pub fn mark(u: Unit<'_>, offsets: &mut [u64], marks: &mut [u8]) -> Result<UnitMarks, Refusal> {
     marking::units::mark_unit(
         u.section,
         u.abbreviations,

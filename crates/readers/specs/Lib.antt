@@ -11,6 +11,7 @@ pub mod Cursors
 pub mod Fields
 pub mod Steps
 pub mod References
+pub mod RefusalNumber
 pub mod Header
 pub mod Lists
 pub mod Slots

@@ -13,6 +13,7 @@ use crate::header::size_known;
 use crate::layouts::*;
 use crate::offsets::UnitOffset;
 use crate::operations::Operation;
+use crate::refusal::{Cause, Refusal};
 use crate::tables::clear;
 
 // A reference of an expression: where its operand stands, the offset that it names, how its operand is written
@@ -161,7 +162,7 @@ pub fn references_of_expression(
     offset_size: u8,
     big_endian: bool,
     table: &mut [u64],
-) -> Result<usize, u8>
+) -> Result<usize, Refusal>
     ensures answer { result
         ≡ references_answer address_size offset_size big_endian (length table.old) s.now }
     ensures filled { table.new
@@ -169,7 +170,7 @@ pub fn references_of_expression(
 {
     clear(table);
     if !sizes_known(address_size, offset_size) {
-        return Err(2);
+        return Err(Refusal(Cause::OutsideDomain));
     }
     let e = Encoding {
         version: 5,
@@ -177,12 +178,12 @@ pub fn references_of_expression(
         address_size,
         big_endian,
     };
-    let (references, absolute) = walk_expression(s, e).ok_or(5)?;
+    let (references, absolute) = walk_expression(s, e).ok_or(Refusal(Cause::ListOrExpression))?;
     if absolute {
-        return Err(7);
+        return Err(Refusal(Cause::AbsoluteReference));
     }
     if references > table.len() / 3 {
-        return Err(11);
+        return Err(Refusal(Cause::ReferenceTableFull));
     }
     fill_references(s, e, table, references);
     Ok(references)

@@ -6,6 +6,7 @@ ghost use Rattle.readers.specs.Header.{length_bytes, fields4, fields5, header_fi
 use crate::codes::{DW_UT_compile, DW_UT_split_compile};
 use crate::cursor::{Cursor, Encoding, left};
 use crate::offsets::UnitOffset;
+use crate::refusal::{Cause, Refusal};
 
 // A unit's header: what its fields are read by, its type, where its abbreviations start in their section, where its
 // first entry starts, and where the unit ends in the section.
@@ -44,29 +45,29 @@ fn fields_5(
     at: usize,
     offset_size: u8,
     big_endian: bool,
-) -> Result<Option<UnitHeader>, u8>
+) -> Result<Option<UnitHeader>, Refusal>
     requires { at ≤ length unit.now }
     ensures { result ≡ fields5 big_endian offset_size unit.now at }
 {
     if unit.len() <= at {
-        return Err(1);
+        return Err(Refusal(Cause::ShortHeader));
     }
     let unit_type = unit[at];
     if unit_type != DW_UT_compile && unit_type != DW_UT_split_compile {
-        return Err(2);
+        return Err(Refusal(Cause::OutsideDomain));
     }
     let size_at = at + 1;
     if unit.len() <= size_at {
-        return Err(1);
+        return Err(Refusal(Cause::ShortHeader));
     }
     let address_size = unit[size_at];
     if !size_known(address_size) {
-        return Err(2);
+        return Err(Refusal(Cause::OutsideDomain));
     }
     let width = offset_size as usize;
     let (abbreviations, _) = (Cursor { at: at + 2 })
         .fixed(unit, width, big_endian)
-        .ok_or(1)?;
+        .ok_or(Refusal(Cause::ShortHeader))?;
     let encoding = Encoding {
         version: 5,
         offset_size,
@@ -84,7 +85,7 @@ fn fields_5(
         }));
     }
     if unit.len() < first + 8 {
-        return Err(1);
+        return Err(Refusal(Cause::ShortHeader));
     }
     Ok(Some(UnitHeader {
         encoding,
@@ -101,19 +102,19 @@ fn fields_4(
     at: usize,
     offset_size: u8,
     big_endian: bool,
-) -> Result<Option<UnitHeader>, u8>
+) -> Result<Option<UnitHeader>, Refusal>
     requires { at ≤ length unit.now }
     ensures { result ≡ fields4 big_endian offset_size unit.now at }
 {
     let width = offset_size as usize;
-    let (abbreviations, _) = (Cursor { at }).fixed(unit, width, big_endian).ok_or(1)?;
+    let (abbreviations, _) = (Cursor { at }).fixed(unit, width, big_endian).ok_or(Refusal(Cause::ShortHeader))?;
     let size_at = at + width;
     if unit.len() <= size_at {
-        return Err(1);
+        return Err(Refusal(Cause::ShortHeader));
     }
     let address_size = unit[size_at];
     if !size_known(address_size) {
-        return Err(2);
+        return Err(Refusal(Cause::OutsideDomain));
     }
     Ok(Some(UnitHeader {
         encoding: Encoding {
@@ -130,19 +131,19 @@ fn fields_4(
 }
 
 // The fields after the length, of a unit that ends where its length says.
-fn header_fields(unit: &[u8], offset_size: u8, big_endian: bool) -> Result<Option<UnitHeader>, u8>
+fn header_fields(unit: &[u8], offset_size: u8, big_endian: bool) -> Result<Option<UnitHeader>, Refusal>
     ensures { result ≡ header_fields big_endian offset_size unit.now }
 {
     let (version, next) = (Cursor {
         at: length_bytes(offset_size),
     })
     .fixed(unit, 2, big_endian)
-    .ok_or(1)?;
+    .ok_or(Refusal(Cause::ShortHeader))?;
     let at = next.at;
     match version {
         5 => fields_5(unit, at, offset_size, big_endian),
         4 => fields_4(unit, at, offset_size, big_endian),
-        _ => Err(2),
+        _ => Err(Refusal(Cause::OutsideDomain)),
     }
 }
 
@@ -152,13 +153,13 @@ fn header_in(
     unit_length: u64,
     offset_size: u8,
     big_endian: bool,
-) -> Result<Option<UnitHeader>, u8>
+) -> Result<Option<UnitHeader>, Refusal>
     requires { length_bytes offset_size ≤ length section.now }
     ensures { result ≡ header_in big_endian offset_size section.now unit_length }
 {
     let from = length_bytes(offset_size);
     if unit_length > (left(section, from) as u64) {
-        return Err(1);
+        return Err(Refusal(Cause::ShortHeader));
     }
     let end = from + (unit_length as usize);
     header_fields(&section[..end], offset_size, big_endian)
@@ -166,19 +167,19 @@ fn header_in(
 
 // The header of the first unit of a section, by the byte order that it is told; none of an empty section. Refused with
 // 1 where it is cut short, 2 for a value outside the domain.
-pub fn unit_header(section: &[u8], big_endian: bool) -> Result<Option<UnitHeader>, u8>
+pub fn unit_header(section: &[u8], big_endian: bool) -> Result<Option<UnitHeader>, Refusal>
     ensures { result ≡ header_of big_endian section.now }
 {
     if section.len() == 0 {
         return Ok(None);
     }
-    let (length, _) = (Cursor { at: 0 }).fixed(section, 4, big_endian).ok_or(1)?;
+    let (length, _) = (Cursor { at: 0 }).fixed(section, 4, big_endian).ok_or(Refusal(Cause::ShortHeader))?;
     if length == ESCAPE_64 {
-        let (wide, _) = (Cursor { at: 4 }).fixed(section, 8, big_endian).ok_or(1)?;
+        let (wide, _) = (Cursor { at: 4 }).fixed(section, 8, big_endian).ok_or(Refusal(Cause::ShortHeader))?;
         return header_in(section, wide, 8, big_endian);
     }
     if length >= FIRST_RESERVED {
-        return Err(2);
+        return Err(Refusal(Cause::OutsideDomain));
     }
     header_in(section, length, 4, big_endian)
 }

@@ -15,5 +15,6 @@ pub mod layouts;
 pub mod lists;
 pub mod offsets;
 pub mod operations;
+pub mod refusal;
 mod slots;
 pub mod tables;

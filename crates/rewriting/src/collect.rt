@@ -24,6 +24,7 @@ use marking::units::{UnitMarking, UnitMarks, mark_unit};
 use readers::codes::{DW_AT_location, DW_AT_ranges};
 use readers::header::{UnitHeader, unit_part};
 use readers::offsets::UnitOffset;
+use readers::refusal::{Cause, Refusal};
 use readers::tables::{clear, clear_bytes, clear_indexes};
 
 // What an accepted answer counts: entries, kept ones, map places, output bytes (both 0 where untouched), and the numbers
@@ -69,7 +70,7 @@ fn clear_outputs(
 
 // Makes map, lists and output zeros after a refusal.
 fn clear_refused(
-    answer: Result<Collected, u8>,
+    answer: Result<Collected, Refusal>,
     map: &mut [u8],
     ranges: &mut [u8],
     locations: &mut [u8],
@@ -238,7 +239,7 @@ fn write_unit(
     work: &mut [u32],
     map: &mut [u8],
     out: &mut [u8],
-) -> Result<Collected, u8>
+) -> Result<Collected, Refusal>
     ensures { (x : Sections) (u : Unit') (lists : Lists) (room : Room)
         → PassInput x u r abbreviations.now index.now unit.now parents.now
         ends.now marks.now first.0
@@ -260,10 +261,10 @@ fn write_unit(
         map,
     );
     if size.places > map.len() / PLACE_SIZE {
-        return Err(13);
+        return Err(Refusal(Cause::MapShort));
     }
     if size.bytes > out.len() {
-        return Err(14);
+        return Err(Refusal(Cause::OutputShort));
     }
     fill_work(
         map,
@@ -326,7 +327,7 @@ fn rewrite_unit(
     location_list: &mut [u8],
     string_list: &mut [u8],
     out: &mut [u8],
-) -> Result<Collected, u8>
+) -> Result<Collected, Refusal>
     ensures { (x : Sections) (tables : Rooms) (ds : List Placed) (rows : List EntryRow)
         → Tabled x tables section.now h ds rows abbreviations.now index.now
         parents.now ends.old marks.now entries kept
@@ -365,7 +366,7 @@ fn rewrite_unit(
         location_list,
         string_list,
     )
-    .ok_or(12)?;
+    .ok_or(Refusal(Cause::IndexListShort))?;
     if kept == entries {
         return Ok(Collected::Untouched(Counts {
             entries,
@@ -401,7 +402,7 @@ fn rewrite_unit(
 }
 
 // Untouched, without entries.
-fn nothing() -> Result<Collected, u8>
+fn nothing() -> Result<Collected, Refusal>
     ensures { result ≡ answer_for (untouched 0 no_lists) }
 {
     Ok(Collected::Untouched(Counts {
@@ -418,7 +419,7 @@ fn nothing() -> Result<Collected, u8>
 // What is to be done once a unit's entries are marked: nothing more, or the unit of a header is rewritten.
 #[derive(Clone, Copy)]
 pub enum Task {
-    Done(Result<Collected, u8>),
+    Done(Result<Collected, Refusal>),
     Rewrite {
         header: UnitHeader,
         entries: usize,
@@ -470,7 +471,7 @@ fn collect_marked(
     location_list: &mut [u8],
     string_list: &mut [u8],
     out: &mut [u8],
-) -> Result<Collected, u8>
+) -> Result<Collected, Refusal>
     ensures { (x : Sections) (tables : Rooms)
         → MarkedTables x tables section.now task abbreviations.now index.now
         parents.now ends.old marks.now
@@ -536,7 +537,7 @@ fn collect_unit<'a>(
     debug_ranges: &'a [u8],
     tags: &[u8],
     treatments: &[u8],
-) -> Result<Collected, u8>
+) -> Result<Collected, Refusal>
     ensures { let x = sections abbreviations.now locations.now ranges.now
         addresses.now debug_ranges.now (keep_in tags.now treatments.now)
         setting in
@@ -621,7 +622,7 @@ pub fn collect<'a>(
     location_list: &mut [u8],
     string_list: &mut [u8],
     out: &mut [u8],
-) -> Result<Collected, u8>
+) -> Result<Collected, Refusal>
     ensures { let x = sections abbreviations.now locations.now ranges.now
         addresses.now debug_ranges.now (keep_in tags.now treatments.now)
         setting in

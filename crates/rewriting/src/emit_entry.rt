@@ -35,6 +35,7 @@ use readers::entry_attributes::EntryAttribute;
 use readers::expressions::Reference;
 use readers::fields::Field;
 use readers::offsets::UnitOffset;
+use readers::refusal::{Cause, Refusal};
 
 // Each `emit_` function answers how many bytes it wrote, or the number of a refusal.
 
@@ -61,7 +62,7 @@ pub fn emit_bytes(bytes: &[u8], out: &mut [u8]) -> usize
 }
 
 // What is answered where so many bytes stand before: the count goes on, a refusal stays.
-fn after(done: usize, rest: Result<usize, u8>) -> Result<usize, u8>
+fn after(done: usize, rest: Result<usize, Refusal>) -> Result<usize, Refusal>
     requires { (n : ℕ) → rest ≡ Ok n → done + n < 2 ^ 64 }
     ensures { result ≡ onward done rest }
 {
@@ -76,7 +77,7 @@ fn emit_number(
     leb: bool,
     big_endian: bool,
     out: &mut [u8],
-) -> Result<usize, u8>
+) -> Result<usize, Refusal>
     ensures within { Within out.old result out.new }
     ensures bytes { Wide leb width
         → let e = encoded_by leb width in
@@ -85,7 +86,7 @@ fn emit_number(
     if put_number(value, width, leb, big_endian, out) {
         return Ok(width);
     }
-    Err(9)
+    Err(Refusal(Cause::TooWide))
 }
 
 // The new offset in the old one's place: 8 where it has none (gc.rs: `write_ref_value`).
@@ -95,13 +96,13 @@ fn emit_offset(
     leb: bool,
     big_endian: bool,
     out: &mut [u8],
-) -> Result<usize, u8>
+) -> Result<usize, Refusal>
     ensures within { Within out.old result out.new }
     ensures bytes { (o : Option ℕ) (v : ℕ) → new ≡ as_mapped o → Wide leb width
         → let e = encoded_by leb width in
         Emits (offset_refusal e v o) (number_bytes big_endian e (or_self v o)) out.old result out.new }
 {
-    let value = new.ok_or(8)?;
+    let value = new.ok_or(Refusal(Cause::TargetNotKept))?;
     emit_number(value.0, width, leb, big_endian, out)
 }
 
@@ -113,7 +114,7 @@ fn emit_expression(
     places: usize,
     out: &mut [u8],
     work: &[u32],
-) -> Result<usize, u8>
+) -> Result<usize, Refusal>
     ensures within { Within out.old result out.new }
     ensures bytes { (lists : Lists) (ps : List Place) (depth : ℕ) (pieces : List Piece)
         → MapHeld ps map.now → places ≡ length ps → expression_in e s.now ≡ Some pieces
@@ -191,7 +192,7 @@ fn emit_attribute(
     strings: &[u8],
     strings_count: Option<usize>,
     out: &mut [u8],
-) -> Result<usize, u8>
+) -> Result<usize, Refusal>
     ensures within { Within out.old result out.new }
     ensures bytes { (lists : Lists) (ps : List Place) (rs : List Read) (rest : List ℕ)
         → MapHeld ps map.now → places ≡ length ps → Bounds ps bounds.now
@@ -316,7 +317,7 @@ pub(crate) fn emit_entry(
     strings: &[u8],
     strings_count: Option<usize>,
     out: &mut [u8],
-) -> Result<usize, u8>
+) -> Result<usize, Refusal>
     ensures within { Within out.old result out.new }
     ensures bytes { (lists : Lists) (ps : List Place) (look : ℕ → Option Declaration) (x : Entry) (rs : List Read) (rest : List ℕ)
         → MapHeld ps map.now → places ≡ length ps → Bounds ps bounds.now

@@ -16,6 +16,7 @@ use crate::numbers::{bytes_fit, put_bytes, put_fixed};
 use readers::cursor::Encoding;
 use readers::header::length_bytes;
 use readers::offsets::UnitOffset;
+use readers::refusal::Refusal;
 
 // Writes the kept items (gc.rs: `emit_dies`).
 pub(crate) fn emit_dies(
@@ -37,7 +38,7 @@ pub(crate) fn emit_dies(
     strings: &[u8],
     strings_count: Option<usize>,
     out: &mut [u8],
-) -> Result<usize, u8>
+) -> Result<usize, Refusal>
     ensures within { Within out.old result out.new }
     ensures bytes { (x : Sections) (u : Unit') (lists : Lists) (ps : List Place)
         → PassInput x u r abbreviations.now index.now unit.now parents.now

@@ -8,6 +8,7 @@ ghost use Rattle.rewriting.specs.Inner.Written.{bytes_fit, number_fits, unfit, P
 ghost use Rattle.rewriting.specs.Written.{over, put_in, number_there};
 
 use readers::cursor::Cursor;
+use readers::refusal::{Cause, Refusal};
 use readers::tables::clear_bytes;
 
 // Whether a number has at most so many digits.
@@ -86,7 +87,7 @@ pub(crate) fn put_fixed(value: u64, width: usize, big_endian: bool, out: &mut [u
 
 // Writes a ULEB128 number in exactly so many bytes at the start of a slice, zeros after it (gc.rs: `write_uleb128_padded`).
 // 15, and zeros, for a width of 0, above 10, below what the number needs or beyond the slice.
-pub fn write_uleb128_padded(value: u64, width: usize, out: &mut [u8]) -> Result<(), u8>
+pub fn write_uleb128_padded(value: u64, width: usize, out: &mut [u8]) -> Result<(), Refusal>
     ensures answer { result ≡ padded_answer value width (length out.old) }
     ensures bytes { out.new ≡ padded_out value width (length out.old) }
 {
@@ -95,7 +96,7 @@ pub fn write_uleb128_padded(value: u64, width: usize, out: &mut [u8]) -> Result<
         return Ok(());
     }
     clear_bytes(out);
-    Err(15)
+    Err(Refusal(Cause::PaddedWidth))
 }
 
 // Writes a number in its own encoding at the start of a part: whether it fits. A padded number has a part of exactly its

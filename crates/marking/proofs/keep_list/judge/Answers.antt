@@ -1,7 +1,7 @@
 -- `keep_refusal` asks in the order of the document. Assumes nothing.
 use Rattle.marking.proofs.KeepLists.{refused-count, refused-treatment, refused-order, refused_none}
-use Rattle.marking.proofs.keep_list.keep_refusal.Goals as goal
-use Rattle.marking.proofs.keep_list.keep_refusal.Goals.{then-treatments-tags-via-then-treatments-tags, then-treatments-tags-via-else-treatments-tags+then-not-each_treats}
+use Rattle.marking.proofs.keep_list.judge.Goals as goal
+use Rattle.marking.proofs.keep_list.judge.Goals.{then-treatments-tags-via-then-treatments-tags, then-treatments-tags-via-else-treatments-tags+then-not-each_treats}
 
 pub returns-then-treatments-tags : goal.returns-then-treatments-tags
 returns-then-treatments-tags c =
