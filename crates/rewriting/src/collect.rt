@@ -70,18 +70,18 @@ fn clear_outputs(
 
 // Makes map, lists and output zeros after a refusal.
 fn clear_refused(
-    answer: Result<Collected, Refusal>,
+    answer: &Result<Collected, Refusal>,
     map: &mut [u8],
     ranges: &mut [u8],
     locations: &mut [u8],
     strings: &mut [u8],
     out: &mut [u8],
 )
-    ensures { (map.new ≡ left_by answer map.old)
-        × (ranges.new ≡ left_by answer ranges.old)
-        × (locations.new ≡ left_by answer locations.old)
-        × (strings.new ≡ left_by answer strings.old)
-        × (out.new ≡ left_by answer out.old) }
+    ensures { (map.new ≡ left_by answer.now map.old)
+        × (ranges.new ≡ left_by answer.now ranges.old)
+        × (locations.new ≡ left_by answer.now locations.old)
+        × (strings.new ≡ left_by answer.now strings.old)
+        × (out.new ≡ left_by answer.now out.old) }
 {
     if answer.is_err() {
         clear_outputs(map, ranges, locations, strings, out);
@@ -676,6 +676,6 @@ pub fn collect<'a>(
     clear_tables(
         index, offsets, parents, roots, ends, marks, targets, pairs, work,
     );
-    clear_refused(answer, map, range_list, location_list, string_list, out);
+    clear_refused(&answer, map, range_list, location_list, string_list, out);
     answer
 }
