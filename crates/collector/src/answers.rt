@@ -100,6 +100,6 @@ pub(crate) fn give(answer: Result<Collected, Refusal>, counts: &mut [u8]) -> u64
             Collected::Untouched(c) => accepted(UNTOUCHED, UNTOUCHED + 2, c, counts),
             Collected::Rewritten(c) => accepted(REWRITTEN, REWRITTEN + 2, c, counts),
         },
-        Err(n) => u64::from(n),
+        Err(refusal) => u64::from(refusal.number()),
     }
 }

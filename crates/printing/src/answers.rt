@@ -3,12 +3,13 @@ use crate::Told;
 use crate::marks::{Unit, letter, mark, unit_of};
 use marking::units::UnitMarks;
 use readers::offsets::UnitOffset;
+use readers::refusal::Refusal;
 use rewriting::collect::{Collected, Counts};
 use std::io;
 use std::io::Write;
 
-pub fn refused(to: &mut impl Write, n: u8) -> io::Result<()> {
-    writeln!(to, "refused {n}")
+pub fn refused(to: &mut impl Write, refusal: Refusal) -> io::Result<()> {
+    writeln!(to, "refused {refusal}")
 }
 
 // What collect answered and wrote, where it refused nothing.
@@ -58,7 +59,7 @@ fn marked(to: &mut impl Write, u: Unit<'_>, a: Thinned<'_>) -> io::Result<()> {
                 kept: _,
             },
         ) => entries(to, &offsets, &marks, a),
-        Err(n) => refused(to, n),
+        Err(refusal) => refused(to, refusal),
     }
 }
 
@@ -180,7 +181,7 @@ fn answered<W: Write, F: Fn(&mut W, Unit<'_>, Thinned<'_>) -> io::Result<()>>(
     ) {
         Ok(Collected::Untouched(c)) => (false, c),
         Ok(Collected::Rewritten(c)) => (true, c),
-        Err(n) => return refused(to, n),
+        Err(refusal) => return refused(to, refusal),
     };
     let answer = Thinned {
         rewritten,

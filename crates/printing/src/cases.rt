@@ -195,7 +195,7 @@ fn answered(to: &mut impl Write, answer: Result<Collected, Refusal>) -> io::Resu
     match answer {
         Ok(Collected::Untouched(c)) => counts(to, "untouched", c),
         Ok(Collected::Rewritten(c)) => counts(to, "rewritten", c),
-        Err(n) => refused(to, n),
+        Err(refusal) => refused(to, refusal),
     }
 }
 

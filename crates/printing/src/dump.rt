@@ -14,6 +14,7 @@ use readers::fields::{Field, Operands};
 use readers::header::UnitHeader;
 use readers::layouts::ROW_ADDRESS_ADDRESS;
 use readers::operations::{ListEntry, ListStep};
+use readers::refusal::{Cause, Refusal};
 use std::io;
 use std::io::Write;
 
@@ -85,9 +86,9 @@ fn expression(to: &mut impl Write, s: &[u8], e: Encoding) -> io::Result<()> {
             }
             Ok(())
         }
-        Err(n) => {
+        Err(refusal) => {
             write!(to, "  expression ")?;
-            refused(to, n)
+            refused(to, refusal)
         }
     }
 }
@@ -136,7 +137,7 @@ fn ended(to: &mut impl Write) -> io::Result<Option<Cursor>> {
 // What is here can't be read.
 fn list_refused(to: &mut impl Write) -> io::Result<Option<Cursor>> {
     write!(to, "  list ")?;
-    refused(to, 5)?;
+    refused(to, Refusal(Cause::ListOrExpression))?;
     Ok(None)
 }
 
@@ -361,7 +362,7 @@ fn place_step(to: &mut impl Write, u: Unit<'_>, p: Place) -> io::Result<Option<P
         }
         Some(Step::End) => Ok(None),
         None => {
-            refused(to, 4)?;
+            refused(to, Refusal(Cause::Entry))?;
             Ok(None)
         }
     }
@@ -406,7 +407,7 @@ pub fn dump(to: &mut impl Write, s: &[u8], big_endian: bool) -> io::Result<()> {
     let section = bundle::section_bytes(s, b.unit);
     let h = match readers::header::unit_header(section, big_endian) {
         Ok(None) => return writeln!(to, "empty"),
-        Err(n) => return refused(to, n),
+        Err(refusal) => return refused(to, refusal),
         Ok(Some(h)) => h,
     };
     let abbreviations = bundle::section_bytes(s, b.abbreviations);
@@ -428,6 +429,6 @@ pub fn dump(to: &mut impl Write, s: &[u8], big_endian: bool) -> io::Result<()> {
             };
             entries(to, u)
         }
-        Checked::Refused => refused(to, 3),
+        Checked::Refused => refused(to, Refusal(Cause::Abbreviations)),
     }
 }

@@ -84,6 +84,6 @@ pub fn list(to: &mut impl Write, s: &[u8], told: Told<'_>) -> io::Result<()> {
             }
             Ok(())
         }
-        Err(n) => writeln!(to, "refused {n}"),
+        Err(refusal) => writeln!(to, "refused {refusal}"),
     }
 }

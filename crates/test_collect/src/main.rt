@@ -11,7 +11,7 @@ fn padded(to: &mut impl Write, value: u64, width: usize, out: &mut [u8]) -> io::
     write!(to, "padded {value} in {width} of {}", out.len())?;
     match rewriting::numbers::write_uleb128_padded(value, width, out) {
         Ok(()) => write!(to, " written")?,
-        Err(n) => write!(to, " refused {n}")?,
+        Err(refusal) => write!(to, " refused {refusal}")?,
     }
     hex(to, "", out)?;
     writeln!(to)

@@ -22,7 +22,7 @@ fn cases(to: &mut impl Write, marks: &mut [u8], graphs: &[Graph<'_>]) -> io::Res
     for (name, parents, pairs, roots) in graphs {
         match marking::marks::mark(parents, pairs, roots, marks) {
             Ok(n) => write!(to, "{name}: kept {n}")?,
-            Err(n) => write!(to, "{name}: refused {n}")?,
+            Err(refusal) => write!(to, "{name}: refused {refusal}")?,
         }
         for mark in marks.iter() {
             write!(to, " {}", letter(*mark))?;

@@ -19,7 +19,7 @@ fn told(
     write!(to, "{address_size} and {offset_size} of {name}{order}")?;
     match references_of_expression(s, address_size, offset_size, big_endian, &mut [7; 9]) {
         Ok(n) => writeln!(to, ": references {n}"),
-        Err(n) => writeln!(to, ": refused {n}"),
+        Err(refusal) => writeln!(to, ": refused {refusal}"),
     }
 }
 

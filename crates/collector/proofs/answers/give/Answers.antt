@@ -13,4 +13,4 @@ returns-in-Rewritten c = let p = give-rewritten _ _ c.args.counts.now _ _ _ (c.i
     c.accepted-in-Rewritten.ensures.answer c.accepted-in-Rewritten.ensures.counts in record { answer = p.0; counts = p.1 }
 
 pub returns-in-Err : goal.returns-in-Err
-returns-in-Err c = let p = give-refused _ c.args.counts.now _ _ c.in-Err.is c.clear_bytes.ensures in record { answer = c.from.ensures ∙ p.0; counts = p.1 }
+returns-in-Err c = let p = give-refused _ c.args.counts.now _ _ c.in-Err.is c.clear_bytes.ensures in record { answer = c.from.ensures ∙ c.number.ensures ∙ p.0; counts = p.1 }
