@@ -416,49 +416,36 @@ fn nothing() -> Result<Collected, Refusal>
     }))
 }
 
-// What is to be done once a unit's entries are marked: nothing more, or the unit of a header is rewritten.
+// A unit that has entries, to be thinned: its header, how many entries it has and how many of them are kept.
 #[derive(Clone, Copy)]
-pub enum Task {
-    Done(Result<Collected, Refusal>),
-    Rewrite {
-        header: UnitHeader,
-        entries: usize,
-        kept: usize,
-    },
+pub struct Task {
+    pub header: UnitHeader,
+    pub entries: usize,
+    pub kept: usize,
 }
 
-fn task_of(unit: UnitMarking) -> Task
+// What is to be done once a unit's entries are marked, if anything.
+fn task_of(unit: UnitMarking) -> Result<Option<Task>, Refusal>
     ensures { result ≡ task_of unit.header unit.marks }
 {
-    let UnitMarks { entries, kept } = match unit.marks {
-        Ok(marks) => marks,
-        Err(n) => {
-            return Task::Done(Err(n));
-        }
-    };
+    let UnitMarks { entries, kept } = unit.marks?;
     if entries == 0 {
-        return Task::Done(nothing());
+        return Ok(None);
     }
-    let first = match unit.header {
-        Ok(first) => first,
-        Err(n) => {
-            return Task::Done(Err(n));
-        }
+    let Some(header) = unit.header? else {
+        return Ok(None);
     };
-    match first {
-        Some(header) => Task::Rewrite {
-            header,
-            entries,
-            kept,
-        },
-        None => Task::Done(nothing()),
-    }
+    Ok(Some(Task {
+        header,
+        entries,
+        kept,
+    }))
 }
 
 // The answer for marked tables.
 fn collect_marked(
     section: &[u8],
-    task: Task,
+    task: Result<Option<Task>, Refusal>,
     abbreviations: &[u8],
     index: &[u64],
     parents: &[u64],
@@ -484,31 +471,34 @@ fn collect_marked(
         (length string_list.old) (length out.old)
         map.new range_list.new location_list.new string_list.new out.new }
 {
-    match task {
-        Task::Done(answer) => answer,
-        Task::Rewrite {
+    let Some(
+        Task {
             header,
             entries,
             kept,
-        } => rewrite_unit(
-            section,
-            header,
-            abbreviations,
-            index,
-            parents,
-            ends,
-            marks,
-            entries,
-            kept,
-            type_units,
-            work,
-            map,
-            range_list,
-            location_list,
-            string_list,
-            out,
-        ),
-    }
+        },
+    ) = task?
+    else {
+        return nothing();
+    };
+    rewrite_unit(
+        section,
+        header,
+        abbreviations,
+        index,
+        parents,
+        ends,
+        marks,
+        entries,
+        kept,
+        type_units,
+        work,
+        map,
+        range_list,
+        location_list,
+        string_list,
+        out,
+    )
 }
 
 // The answer, with tables as they are left, and after a refusal also map, lists and output.

@@ -246,12 +246,11 @@ fn emit_attribute(
 }
 
 // What is to be done with the next attribute: a value that is copied, by the cursors past it and past its specification;
-// one that may change; none.
+// one that may change.
 #[derive(Clone, Copy)]
 pub enum Plan {
     Copy(Cursor, Cursor),
     Change(EntryAttribute),
-    Over,
 }
 
 // Whether the values of a declared form are copied as they are.
@@ -263,39 +262,36 @@ fn copies(form: u64) -> bool
         && list_of(form) == 3
 }
 
-// The next attribute of an entry: of a value that is copied no more is read than where it ends.
-fn next_plan(unit: &[u8], abbreviations: &[u8], specs: Cursor, values: Cursor, e: Encoding) -> Plan
+// The next attribute of an entry, if it has one: of a value that is copied no more is read than where it ends.
+fn next_plan(
+    unit: &[u8],
+    abbreviations: &[u8],
+    specs: Cursor,
+    values: Cursor,
+    e: Encoding,
+) -> Option<Plan>
     ensures { Planned (next_attribute e abbreviations.now specs.at unit.now values.at) result }
 {
-    let Some(step) = specs.attribute_spec(abbreviations) else {
-        return Plan::Over;
+    let SpecStep::Attribute(a) = specs.attribute_spec(abbreviations)? else {
+        return None;
     };
-    match step {
-        SpecStep::Attribute(a) => {
-            let next = a.next;
-            if copies(a.form) {
-                let Some(past) = values.past_attribute(unit, a.name, a.form, e) else {
-                    return Plan::Over;
-                };
-                return Plan::Copy(past, next);
-            }
-            let Some(value) = values.attribute(unit, a.name, a.form, e) else {
-                return Plan::Over;
-            };
-            let name = a.name;
-            let declared = a.form;
-            let field = value.field;
-            let past = field.next();
-            Plan::Change(EntryAttribute {
-                name,
-                declared,
-                value,
-                next,
-                values: past,
-            })
-        }
-        SpecStep::Last(_) => Plan::Over,
+    let next = a.next;
+    if copies(a.form) {
+        let past = values.past_attribute(unit, a.name, a.form, e)?;
+        return Some(Plan::Copy(past, next));
     }
+    let value = values.attribute(unit, a.name, a.form, e)?;
+    let name = a.name;
+    let declared = a.form;
+    let field = value.field;
+    let past = field.next();
+    Some(Plan::Change(EntryAttribute {
+        name,
+        declared,
+        value,
+        next,
+        values: past,
+    }))
 }
 
 // An entry: its code, then its attributes (gc.rs: a turn of `emit_dies`).
@@ -337,13 +333,13 @@ pub(crate) fn emit_entry(
     // No for: the place goes on by what is read there.
     loop {
         match next_plan(unit, abbreviations, p, from, e) {
-            Plan::Copy(past, next) => {
+            Some(Plan::Copy(past, next)) => {
                 let n = emit_bytes(bytes_between(unit, from.at, past.at), &mut out[to..]);
                 to += n;
                 from = past;
                 p = next;
             }
-            Plan::Change(a) => {
+            Some(Plan::Change(a)) => {
                 let next = a.next;
                 let past = a.values;
                 to += emit_attribute(
@@ -366,7 +362,7 @@ pub(crate) fn emit_entry(
                 from = past;
                 p = next;
             }
-            Plan::Over => {
+            None => {
                 return Ok(to);
             }
         }

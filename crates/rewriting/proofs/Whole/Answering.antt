@@ -24,7 +24,6 @@ use Rattle.rewriting.specs.Outputs.{Answer, room_by, answer_for, map_for, output
 use Rattle.rewriting.specs.Inner.Leaving.{Accepts, Answers, left_by, header_task, task_of, MarkedTables, Tabled, Blank, marked_of}
 use Rattle.rewriting.specs.declared.collect.Collected.TheVariants.{Untouched, Rewritten}
 use Rattle.rewriting.specs.declared.collect.Task.{Task}
-use Rattle.rewriting.specs.declared.collect.Task.TheVariants.{Done, Rewrite}
 use Rattle.marking.proofs.ListedHeaders.{unit-listed}
 use Rattle.marking.proofs.UnitMarkings.{marks-each}
 
@@ -244,48 +243,31 @@ ends-enough marks pairs offsets parents roots ends targets =
 -- ---- by the tables that marking leaves
 
 -- what is to be done, by the marks and the header
-pub task-refused : (o : Result (Option UnitHeader) ℕ) (m : Result UnitMarks ℕ) (k : ℕ) → m ≡ Err k → Done (Err k) ≡ task_of o m
+pub task-refused : (o : Result (Option UnitHeader) ℕ) (m : Result UnitMarks ℕ) (k : ℕ) (t : Result (Option Task) ℕ) → m ≡ Err k → t ≡ Err k → t ≡ task_of o m
 unfolding task_of
-task-refused o m k q = sym (ap (task_of o) q)
+task-refused o m k t q e = e ∙ sym (ap (task_of o) q)
 
-pub task-none : (o : Result (Option UnitHeader) ℕ) (m : Result UnitMarks ℕ) (n k : ℕ) (a : Answer) → m ≡ unit_marked n k → n ≡ 0 → a ≡ answer_for (untouched 0 no_lists) → Done a ≡ task_of o m
+pub task-none : (o : Result (Option UnitHeader) ℕ) (m : Result UnitMarks ℕ) (n k : ℕ) → m ≡ unit_marked n k → n ≡ 0 → Ok None ≡ task_of o m
 unfolding task_of
-task-none o m n k a q z e =
-    ap (λ (b : Answer). Done b) e ∙ sym (ap (task_of o) q ∙ pick_yes (eqb n 0) _ _ (yes_eqb {a = n} {b = 0} z))
+task-none o m n k q z = sym (ap (task_of o) q ∙ pick_yes (eqb n 0) _ _ (yes_eqb {a = n} {b = 0} z))
 
-pub task-some : (o : Result (Option UnitHeader) ℕ) (m : Result UnitMarks ℕ) (n k : ℕ) (t : Task) → m ≡ unit_marked n k → (n ≡ 0 → ⊥) → t ≡ header_task o n k → t ≡ task_of o m
+pub task-some : (o : Result (Option UnitHeader) ℕ) (m : Result UnitMarks ℕ) (n k : ℕ) (t : Result (Option Task) ℕ) → m ≡ unit_marked n k → (n ≡ 0 → ⊥) → t ≡ header_task o n k → t ≡ task_of o m
 unfolding task_of
 task-some o m n k t q z e = e ∙ sym (ap (task_of o) q ∙ pick_no (eqb n 0) _ _ (no_eqb {a = n} {b = 0} z))
 
-pub task-empty : (o : Result (Option UnitHeader) ℕ) (n k : ℕ) (a : Answer) → o ≡ Ok None → a ≡ answer_for (untouched 0 no_lists) → Done a ≡ header_task o n k
+pub task-no-header : (o : Result (Option UnitHeader) ℕ) (n k j : ℕ) (t : Result (Option Task) ℕ) → o ≡ Err j → t ≡ Err j → t ≡ header_task o n k
 unfolding header_task
-task-empty o n k a q e = ap (λ (b : Answer). Done b) e ∙ sym (ap (λ (h : Result (Option UnitHeader) ℕ). header_task h n k) q)
+task-no-header o n k j t q e = e ∙ sym (ap (λ (h : Result (Option UnitHeader) ℕ). header_task h n k) q)
 
-pub task-no-header : (o : Result (Option UnitHeader) ℕ) (n k j : ℕ) → o ≡ Err j → Done (Err j) ≡ header_task o n k
+pub task-empty : (o : Result (Option UnitHeader) ℕ) (n k : ℕ) → o ≡ Ok None → Ok None ≡ header_task o n k
 unfolding header_task
-task-no-header o n k j q = sym (ap (λ (h : Result (Option UnitHeader) ℕ). header_task h n k) q)
+task-empty o n k q = sym (ap (λ (h : Result (Option UnitHeader) ℕ). header_task h n k) q)
 
-pub task-header : (o : Result (Option UnitHeader) ℕ) (n k : ℕ) (h : UnitHeader) → o ≡ Ok (Some h) → Rewrite h n k ≡ header_task o n k
+pub task-header : (o : Result (Option UnitHeader) ℕ) (n k : ℕ) (h : UnitHeader) → o ≡ Ok (Some h) → Ok (Some (record { header = h; entries = n; kept = k })) ≡ header_task o n k
 unfolding header_task
 task-header o n k h q = sym (ap (λ (h : Result (Option UnitHeader) ℕ). header_task h n k) q)
 
--- what is to be done is to rewrite a unit
-task-rewrite : (o : Result (Option UnitHeader) ℕ) (m : Result UnitMarks ℕ) (h : UnitHeader) (entries kept : ℕ) → task_of o m ≡ Rewrite h entries kept
-    → (o ≡ Ok (Some h)) × (m ≡ unit_marked entries kept) × (entries ≡ 0 → ⊥)
-unfolding task_of header_task
-task-rewrite o (Err n) h entries kept e = let z : ◌≡◌ {A = ℕ} 0 1 = cc in absurd (omega arith)
-task-rewrite (Ok None) (Ok m) h entries kept e =
-    let P : Task → Type 0 = (λ w. w ≡ Rewrite h entries kept → ⊥) in
-    absurd (pick-either P (eqb m.entries 0) _ _ (λ t d. let z : ◌≡◌ {A = ℕ} 0 1 = cc in omega arith) (λ t d. let z : ◌≡◌ {A = ℕ} 0 1 = cc in omega arith) e)
-task-rewrite (Err j) (Ok m) h entries kept e =
-    let P : Task → Type 0 = (λ w. w ≡ Rewrite h entries kept → ⊥) in
-    absurd (pick-either P (eqb m.entries 0) _ _ (λ t d. let z : ◌≡◌ {A = ℕ} 0 1 = cc in omega arith) (λ t d. let z : ◌≡◌ {A = ℕ} 0 1 = cc in omega arith) e)
-task-rewrite (Ok (Some g)) (Ok m) h entries kept e =
-    let P : Task → Type 0 = (λ w. w ≡ Rewrite h entries kept → ◌≡◌ {A = Result (Option UnitHeader) ℕ} (Ok (Some g)) (Ok (Some h)) × ◌≡◌ {A = Result UnitMarks ℕ} (Ok m) (unit_marked entries kept) × (entries ≡ 0 → ⊥)) in
-    pick-either P (eqb m.entries 0) _ _ (λ t d. let z : ◌≡◌ {A = ℕ} 0 1 = cc in absurd (omega arith))
-    (λ t d. (cc, let p : m.entries ≡ entries = cc in let r : m.kept ≡ kept = cc in let q : ◌≡◌ {A = Result UnitMarks ℕ} (unit_marked m.entries m.kept) (unit_marked entries kept) = ap₂ (λ (i : ℕ) (j : ℕ). unit_marked i j) p r in q, let y : m.entries ≡ entries = cc in λ i. eqb_no {a = m.entries} {b = 0} t (y ∙ i))) e
-
-module _ (x : Sections) (tables : Rooms) (t : Bool) (section : List ℕ) (task : Task) (s index parents ends marks : List ℕ) (w : MarkedTables x tables section task s index parents ends marks)
+module _ (x : Sections) (tables : Rooms) (t : Bool) (section : List ℕ) (task : Result (Option Task) ℕ) (s index parents ends marks : List ℕ) (w : MarkedTables x tables section task s index parents ends marks)
     (map ranges locations strings out : List ℕ) (b : Blank map ranges locations strings out) where
   abbrev room : Room
   room = room_by tables (length map) (length ranges) (length locations) (length strings) (length out)
@@ -294,34 +276,41 @@ module _ (x : Sections) (tables : Rooms) (t : Bool) (section : List ℕ) (task :
   Answered a map' ranges' locations' strings' out' =
       Answers (collect_of x room t section) a (length map) (length ranges) (length locations) (length strings) (length out) map' ranges' locations' strings' out'
 
+  -- what a task says of the whole answer
+  unfoldable Says : Result (Option Task) ℕ → Type 0
+  Says (Err k) = collect_of x room t section ≡ refused k
+  Says (Ok None) = collect_of x room t section ≡ untouched 0 no_lists
+  Says (Ok (Some u)) = (header_by x section ≡ Ok (Some u.header)) × (unit_marks (analysis_of x section tables) ≡ unit_marked u.entries u.kept) × (u.entries ≡ 0 → ⊥)
+
+  by-task : (m : Result UnitMarks ℕ) → unit_marks (analysis_of x section tables) ≡ m → (o : Result (Option UnitHeader) ℕ) → header_by x section ≡ o → Says (task_of o m)
+  unfolding Says task_of header_task
+  by-task (Err k) u o q = collected-refused x room t section k u
+  by-task (Ok m) u o q =
+      pick-either Says (eqb m.entries 0) _ _ (λ y. collected-none x room t section m.entries m.kept u (eqb_yes {a = m.entries} {b = 0} y))
+      (λ y. by-header-task o q (λ e. eqb_no {a = m.entries} {b = 0} y e))
+    where
+      by-header-task : (o : Result (Option UnitHeader) ℕ) → header_by x section ≡ o → (m.entries ≡ 0 → ⊥) → Says (header_task o m.entries m.kept)
+      by-header-task (Ok None) q n = collected-empty x room t section q
+      by-header-task (Err j) q n = collected-no x room t section j q
+      by-header-task (Ok (Some h)) q n = (q, u, n)
+
+  said : (v : Result (Option Task) ℕ) → task ≡ v → Says v
+  said v e = subst Says (sym w.task_is ∙ e) (by-task (unit_marks (analysis_of x section tables)) refl (header_by x section) refl)
+
   -- nothing more is to be done
-  no-unit : (k : ℕ) → collect_of x room t section ≡ refused k → (a : Answer) → Done (Err k) ≡ Done a → Answered a map ranges locations strings out
-  no-unit k q a e = refused-answers _ _ _ _ _ _ _ _ _ _ _ _ k q (let z : a ≡ Err k = cc in z)
+  refusal-answers : (k : ℕ) → task ≡ Err k → (a : Answer) → a ≡ Err k → Answered a map ranges locations strings out
+  unfolding Says
+  refusal-answers k e a h = refused-answers _ _ _ _ _ _ _ _ _ _ _ _ k (said (Err k) e) h
 
-  no_entries : collect_of x room t section ≡ untouched 0 no_lists → (a : Answer) → Done (answer_for (untouched 0 no_lists)) ≡ Done a → Answered a map ranges locations strings out
-  no_entries q a e =
-      nothing-answers _ _ _ _ _ _ _ _ _ _ _ _ q (let z : a ≡ answer_for (untouched 0 no_lists) = cc in z) b.map_blank b.ranges_blank b.locations_blank b.strings_blank b.out_blank
-
-  by-task : (m : Result UnitMarks ℕ) → unit_marks (analysis_of x section tables) ≡ m → (o : Result (Option UnitHeader) ℕ) → header_by x section ≡ o → (a : Answer) → task_of o m ≡ Done a → Answered a map ranges locations strings out
-  unfolding task_of header_task
-  by-task (Err k) u o q a = no-unit k (collected-refused x room t section k u) a
-  by-task (Ok m) u (Ok None) q a =
-      pick-either (λ (z : Task). z ≡ Done a → Answered a map ranges locations strings out) (eqb m.entries 0) _ _
-      (λ y. no_entries (collected-none x room t section m.entries m.kept u (eqb_yes {a = m.entries} {b = 0} y)) a) (λ y. no_entries (collected-empty x room t section q) a)
-  by-task (Ok m) u (Err j) q a =
-      pick-either (λ (z : Task). z ≡ Done a → Answered a map ranges locations strings out) (eqb m.entries 0) _ _
-      (λ y. no_entries (collected-none x room t section m.entries m.kept u (eqb_yes {a = m.entries} {b = 0} y)) a) (λ y. no-unit j (collected-no x room t section j q) a)
-  by-task (Ok m) u (Ok (Some h)) q a =
-      pick-either (λ (z : Task). z ≡ Done a → Answered a map ranges locations strings out) (eqb m.entries 0) _ _
-      (λ y. no_entries (collected-none x room t section m.entries m.kept u (eqb_yes {a = m.entries} {b = 0} y)) a) (λ y e. let z : ◌≡◌ {A = ℕ} 0 1 = cc in absurd (omega arith))
-
-  done-answers : (a : Answer) → task ≡ Done a → Answered a map ranges locations strings out
-  done-answers a e = by-task (unit_marks (analysis_of x section tables)) refl (header_by x section) refl a (sym w.task_is ∙ e)
+  done-answers : task ≡ Ok None → (a : Answer) → a ≡ answer_for (untouched 0 no_lists) → Answered a map ranges locations strings out
+  unfolding Says
+  done-answers e a h = nothing-answers _ _ _ _ _ _ _ _ _ _ _ _ (said (Ok None) e) h b.map_blank b.ranges_blank b.locations_blank b.strings_blank b.out_blank
 
   -- a unit that has entries
-  module _ (h : UnitHeader) (entries kept : ℕ) (e : task ≡ Rewrite h entries kept) where
+  module _ (h : UnitHeader) (entries kept : ℕ) (e : task ≡ Ok (Some (record { header = h; entries = entries; kept = kept }))) where
     task-parts : (header_by x section ≡ Ok (Some h)) × (unit_marks (analysis_of x section tables) ≡ unit_marked entries kept) × (entries ≡ 0 → ⊥)
-    task-parts = task-rewrite (header_by x section) (unit_marks (analysis_of x section tables)) h entries kept (sym w.task_is ∙ e)
+    unfolding Says
+    task-parts = said (Ok (Some (record { header = h; entries = entries; kept = kept }))) e
 
     marked : Marking x room t section h entries kept
     marked = marking x room t section h task-parts.0 entries kept task-parts.1 task-parts.2
@@ -351,16 +340,19 @@ module _ (x : Sections) (tables : Rooms) (t : Bool) (section : List ℕ) (task :
         (f x tables marked.declared marked.rows tabled b)
 
 -- what `collect_marked` answers for such tables
-module _ (t : Bool) (section : List ℕ) (task : Task) (s index parents ends marks map ranges locations strings out : List ℕ) where
+module _ (t : Bool) (section : List ℕ) (task : Result (Option Task) ℕ) (s index parents ends marks map ranges locations strings out : List ℕ) where
   abbrev Wanted : Answer → List ℕ → List ℕ → List ℕ → List ℕ → List ℕ → Type 0
   Wanted a map' ranges' locations' strings' out' =
       (x : Sections) (tables : Rooms) → MarkedTables x tables section task s index parents ends marks → Blank map ranges locations strings out
       → Answers (collect_of x (room_by tables (length map) (length ranges) (length locations) (length strings) (length out)) t section) a (length map) (length ranges) (length locations) (length strings) (length out) map' ranges' locations' strings' out'
 
-  pub marked-done : (a : Answer) → task ≡ Done a → Wanted a map ranges locations strings out
-  marked-done a e x tables w b = done-answers x tables t section task s index parents ends marks w map ranges locations strings out b a e
+  pub marked-refused : (k : ℕ) (a : Answer) → task ≡ Err k → a ≡ Err k → Wanted a map ranges locations strings out
+  marked-refused k a e h x tables w b = refusal-answers x tables t section task s index parents ends marks w map ranges locations strings out b k e a h
 
-  pub marked-rewrite : (h : UnitHeader) (entries kept : ℕ) → task ≡ Rewrite h entries kept → (a : Answer) (map' ranges' locations' strings' out' : List ℕ)
+  pub marked-done : (a : Answer) → task ≡ Ok None → a ≡ answer_for (untouched 0 no_lists) → Wanted a map ranges locations strings out
+  marked-done a e h x tables w b = done-answers x tables t section task s index parents ends marks w map ranges locations strings out b e a h
+
+  pub marked-rewrite : (h : UnitHeader) (entries kept : ℕ) → task ≡ Ok (Some (record { header = h; entries = entries; kept = kept })) → (a : Answer) (map' ranges' locations' strings' out' : List ℕ)
       → ((x : Sections) (tables : Rooms) (ds : List Placed) (rows : List EntryRow) → Tabled x tables section h ds rows s index parents ends marks entries kept → Blank map ranges locations strings out
       → Answers (marked_of x (room_by tables (length map) (length ranges) (length locations) (length strings) (length out)) t (unit_of h section ds) rows) a (length map) (length ranges) (length locations) (length strings) (length out) map' ranges' locations' strings' out')
       → Wanted a map' ranges' locations' strings' out'
@@ -385,7 +377,7 @@ by_lengths f a map' ranges' locations' strings' out' m m₀ r r₀ l l₀ s s₀
     (subst (λ (z : ℕ). Answers (f z r l s o) a z r l s o map' ranges' locations' strings' out') em h))))
 
 -- the answer for marked tables and cleared outputs
-pub unit-answers : (x : Sections) (tables : Rooms) (t : Bool) (section : List ℕ) (task : Task) (h : Result (Option UnitHeader) ℕ) (u : Result UnitMarks ℕ) (n p e k m r l s o : ℕ)
+pub unit-answers : (x : Sections) (tables : Rooms) (t : Bool) (section : List ℕ) (task : Result (Option Task) ℕ) (h : Result (Option UnitHeader) ℕ) (u : Result UnitMarks ℕ) (n p e k m r l s o : ℕ)
     (index parents ends marks map ranges locations strings out map' ranges' locations' strings' out' : List ℕ) (a : Answer)
     → task ≡ task_of h u → h ≡ header_by x section → u ≡ unit_marks (analysis_of x section tables)
     → index ≡ index_after x.abbreviations (header_by x section) n → length index ≡ n

@@ -256,10 +256,6 @@ within-to out n out' s h = record { size = s; room = λ m q. subst (λ k. k ≤ 
 pub within-self : {out out' : List ℕ} {n : ℕ} → Within out (Ok n) out' → Within out' (Ok n) out'
 within-self {out = out} {out' = out'} {n = n} f = within-to out' n out' refl (let a : n ≤ length out = f.room n refl in let s : length out' ≡ length out = f.size in omega arith)
 
-pub within-trans : {out out₁ out₂ : List ℕ} {r z : Result ℕ ℕ} → Within out r out₁ → Within out₁ z out₂ → Within out z out₂
-within-trans {out = out} {out₁ = out₁} {z = z} f g =
-    record { size = g.size ∙ f.size; room = λ n q. (let a : n ≤ length out₁ = g.room n q in let s : length out₁ ≡ length out = f.size in omega arith) }
-
 pub size_small : {out out' : List ℕ} {r : Result ℕ ℕ} → Within out r out' → length out < 2 ^ 64 → length out' < 2 ^ 64
 size_small f l = subst (λ n. n < 2 ^ 64) (sym f.size) l
 

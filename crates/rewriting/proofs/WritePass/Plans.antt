@@ -26,17 +26,17 @@ use Rattle.rewriting.specs.Rewriting.{Lists}
 use Rattle.rewriting.specs.Emission.{between}
 use Rattle.rewriting.specs.Inner.Plans.{Copies, Copied, Planned}
 use Rattle.rewriting.specs.declared.emit_entry.Plan.{Plan}
-use Rattle.rewriting.specs.declared.emit_entry.Plan.TheVariants.{Copy, Change, Over}
+use Rattle.rewriting.specs.declared.emit_entry.Plan.TheVariants.{Copy, Change}
 use Rattle.rewriting.proofs.WritePass.Emissions.{EmitsAt}
 use Rattle.rewriting.proofs.WritePass.AttributeEmits.{attribute-whole}
 use Rattle.rewriting.proofs.WritePass.EntryEmits.{Entering, entering-less, entering-on}
 
 module _ (e : Encoding) (s : List ℕ) (p : ℕ) (unit : List ℕ) (at : ℕ) (r : Option SpecStep) (q : r ≡ spec_at s p) where
-  pub plan-last : (c : Cursor) → r ≡ Some (LastSpec c) → Planned (next_attribute e s p unit at) Over
+  pub plan-last : (c : Cursor) → r ≡ Some (LastSpec c) → Planned (next_attribute e s p unit at) None
   unfolding Planned
   plan-last c k = sym (taken-last e s p unit at r q c k)
 
-  pub plan-bad : r ≡ None → Planned (next_attribute e s p unit at) Over
+  pub plan-bad : r ≡ None → Planned (next_attribute e s p unit at) None
   unfolding Planned
   plan-bad k = sym (taken-bad e s p unit at r q k)
 
@@ -44,23 +44,23 @@ module _ (e : Encoding) (s : List ℕ) (p : ℕ) (unit : List ℕ) (at : ℕ) (r
     abbrev there : Option Attribute
     there = attribute_at e unit at a.name a.form
 
-    pub plan-none : (o : Option Attribute) → o ≡ there → o ≡ None → Planned (next_attribute e s p unit at) Over
+    pub plan-none : (o : Option Attribute) → o ≡ there → o ≡ None → Planned (next_attribute e s p unit at) None
     unfolding Planned
     plan-none o l h = sym (taken_none e s p unit at r q a k o l h)
 
     pub plan-change : (o : Option Attribute) → o ≡ there → (v : Attribute) → o ≡ Some v → (c : Cursor) → c ≡ cursor v.field.end
-        → Planned (next_attribute e s p unit at) (Change (record { name = a.name; declared = a.form; value = v; next = a.next; values = c }))
+        → Planned (next_attribute e s p unit at) (Some (Change (record { name = a.name; declared = a.form; value = v; next = a.next; values = c })))
     unfolding Planned
     plan-change o l v h c i = sym (taken_more e s p unit at r q a k o l v h c i)
 
     -- a value whose end alone is read
     module _ (m : Option Cursor) (l : m ≡ attribute_end there) where
-      plan-past : (o : Option Attribute) → there ≡ o → m ≡ None → Planned (next_attribute e s p unit at) Over
+      plan-past : (o : Option Attribute) → there ≡ o → m ≡ None → Planned (next_attribute e s p unit at) None
       unfolding attribute_end
       plan-past (Some v) g h = let y : m ≡ Some (cursor v.field.end) = l ∙ ap attribute_end g in let z : ◌≡◌ {A = ℕ} 0 1 = cc in absurd (omega arith)
       plan-past None g h = plan-none there refl g
 
-      pub plan-nowhere : m ≡ None → Planned (next_attribute e s p unit at) Over
+      pub plan-nowhere : m ≡ None → Planned (next_attribute e s p unit at) None
       plan-nowhere h = plan-past there refl h
 
       plan-to : (past : Cursor) → Copies a.form → (o : Option Attribute) → there ≡ o → m ≡ Some past → Copied (next_attribute e s p unit at) past a.next
@@ -78,13 +78,13 @@ module _ (e : Encoding) (s : List ℕ) (p : ℕ) (unit : List ℕ) (at : ℕ) (r
           }
       plan-to past c None g h = let y : m ≡ None = l ∙ ap attribute_end g in let z : ◌≡◌ {A = ℕ} 0 1 = cc in absurd (omega arith)
 
-      pub plan-copy : (b : Bool) → (b ≡ true → Copies a.form) → b ≡ true → (past : Cursor) → m ≡ Some past → Planned (next_attribute e s p unit at) (Copy past a.next)
+      pub plan-copy : (b : Bool) → (b ≡ true → Copies a.form) → b ≡ true → (past : Cursor) → m ≡ Some past → Planned (next_attribute e s p unit at) (Some (Copy past a.next))
       unfolding Planned
       plan-copy b f t past h = plan-to past (f t) there refl h
 
 -- ---- past a value that is copied
 
-module _ (e : Encoding) (abbreviations : List ℕ) (p : ℕ) (unit : List ℕ) (from : ℕ) (past next : Cursor) (w : Planned (next_attribute e abbreviations p unit from) (Copy past next)) where
+module _ (e : Encoding) (abbreviations : List ℕ) (p : ℕ) (unit : List ℕ) (from : ℕ) (past next : Cursor) (w : Planned (next_attribute e abbreviations p unit from) (Some (Copy past next))) where
   copied : Copied (next_attribute e abbreviations p unit from) past next
   unfolding Planned
   copied = w
@@ -111,14 +111,14 @@ module _ (e : Encoding) (abbreviations : List ℕ) (p : ℕ) (unit : List ℕ) (
 
 -- ---- as it is read
 
-module _ (y : Option EntryAttribute) (r : Plan) (w : Planned y r) where
-  pub plan-over : r ≡ Over → None ≡ y
+module _ (y : Option EntryAttribute) (r : Option Plan) (w : Planned y r) where
+  pub plan-over : r ≡ None → None ≡ y
   unfolding Planned
   plan-over h = sym (subst (Planned y) h w)
 
-  pub plan-more : (a : EntryAttribute) → r ≡ Change a → Some a ≡ y
+  pub plan-more : (a : EntryAttribute) → r ≡ Some (Change a) → Some a ≡ y
   unfolding Planned
   plan-more a h = sym (subst (Planned y) h w)
 
-  pub plan-copied : (past next : Cursor) → r ≡ Copy past next → Planned y (Copy past next)
+  pub plan-copied : (past next : Cursor) → r ≡ Some (Copy past next) → Planned y (Some (Copy past next))
   plan-copied past next h = subst (Planned y) h w

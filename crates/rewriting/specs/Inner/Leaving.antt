@@ -13,14 +13,13 @@ use Rattle.marking.specs.declared.units.UnitMarks.{UnitMarks}
 use Rattle.rewriting.specs.Refusals.{lists_counted}
 use Rattle.marking.specs.Resolution.{}
 use Rattle.rewriting.specs.Places.{kept_from}
-use Rattle.rewriting.specs.Rewriting.{Unit as Unit', items_in, Lists, Room, no_lists, lists_fit, marks_collected}
+use Rattle.rewriting.specs.Rewriting.{Unit as Unit', items_in, Lists, Room, lists_fit, marks_collected}
 use Rattle.rewriting.specs.Rewriting.{Collected, untouched, rewritten, refused}
 use Rattle.rewriting.specs.Inner.Emission.{ListsLent}
 use Rattle.rewriting.specs.Written.{place_size}
 use Rattle.rewriting.specs.Outputs.{Answer, room_by, list_count, answer_for, map_for, output_for, list_or, list_for, ranges_in, locations_in, strings_in}
 use Rattle.rewriting.specs.declared.collect.Collected.TheVariants.{Untouched, Rewritten}
 use Rattle.rewriting.specs.declared.collect.Task.{Task}
-use Rattle.rewriting.specs.declared.collect.Task.TheVariants.{Done, Rewrite}
 
 -- ---- the whole
 
@@ -48,17 +47,17 @@ left_by (Err n) s = zeros (length s)
 
 -- ---- what is to be done once the entries are marked
 
-unfoldable pub header_task : Result (Option UnitHeader) ℕ → ℕ → ℕ → Task
-header_task (Ok None) entries kept = Done (answer_for (untouched 0 no_lists))
-header_task (Err n) entries kept = Done (Err n)
-header_task (Ok (Some h)) entries kept = Rewrite h entries kept
+unfoldable pub header_task : Result (Option UnitHeader) ℕ → ℕ → ℕ → Result (Option Task) ℕ
+header_task (Ok None) entries kept = Ok None
+header_task (Err n) entries kept = Err n
+header_task (Ok (Some h)) entries kept = Ok (Some (record { header = h; entries = entries; kept = kept }))
 
-unfoldable pub task_of : Result (Option UnitHeader) ℕ → Result UnitMarks ℕ → Task
-task_of o (Err n) = Done (Err n)
-task_of o (Ok m) = pick (eqb m.entries 0) (Done (answer_for (untouched 0 no_lists))) (header_task o m.entries m.kept)
+unfoldable pub task_of : Result (Option UnitHeader) ℕ → Result UnitMarks ℕ → Result (Option Task) ℕ
+task_of o (Err n) = Err n
+task_of o (Ok m) = pick (eqb m.entries 0) (Ok None) (header_task o m.entries m.kept)
 
 -- the tables that marking leaves, and what is to be done
-pub record MarkedTables (x : Sections) (tables : Rooms) (section : List ℕ) (task : Task)
+pub record MarkedTables (x : Sections) (tables : Rooms) (section : List ℕ) (task : Result (Option Task) ℕ)
     (abbreviations index parents ends marks : List ℕ) : Type 0 where
   pub abbreviations_are : x.abbreviations ≡ abbreviations
   pub task_is : task ≡ task_of (header_by x section) (unit_marks (analysis_of x section tables))

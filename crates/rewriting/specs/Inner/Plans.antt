@@ -6,7 +6,7 @@ use Rattle.readers.specs.Forms.{list_form}
 use Rattle.readers.specs.declared.cursor.Cursor.{Cursor}
 use Rattle.readers.specs.declared.entry_attributes.EntryAttribute.{EntryAttribute}
 use Rattle.rewriting.specs.declared.emit_entry.Plan.{Plan}
-use Rattle.rewriting.specs.declared.emit_entry.Plan.TheVariants.{Copy, Change, Over}
+use Rattle.rewriting.specs.declared.emit_entry.Plan.TheVariants.{Copy, Change}
 
 -- the values of a declared form are copied as they are
 pub record Copies (form : ℕ) : Type 0 where
@@ -24,7 +24,7 @@ pub record Copied (y : Option EntryAttribute) (past next : Cursor) : Type 0 wher
   pub next_is : attribute.next ≡ next
   pub copies : Copies attribute.declared
 
-unfoldable pub Planned : Option EntryAttribute → Plan → Type 0
-Planned y (Copy past next) = Copied y past next
-Planned y (Change a) = y ≡ Some a
-Planned y Over = y ≡ None
+unfoldable pub Planned : Option EntryAttribute → Option Plan → Type 0
+Planned y (Some (Copy past next)) = Copied y past next
+Planned y (Some (Change a)) = y ≡ Some a
+Planned y None = y ≡ None
