@@ -81,15 +81,23 @@ unfoldable pub Heads : ℕ → RootTurn → Type 0
 Heads n (go p) = p.at ≡ n
 Heads n (stop v) = Unit {0}
 
-pub on-turn : (n : ℕ) (t : RootTurn) → Heads n t → (b : Bool) → On b ≡ turn_of t → t ≡ go (record { at = n; flag = b })
+pub on-turn : (n : ℕ) (t : RootTurn) → Heads n t → (b : Bool) → Ok (On b) ≡ turn_of t → t ≡ go (record { at = n; flag = b })
 unfolding Heads turn_of
 on-turn n (go p) h b q = let f : p.flag ≡ b = cc in ap₂ (λ (n : ℕ) (c : Bool). go (record { at = n; flag = c })) h f
-on-turn n (stop v) h b q = let z : ◌≡◌ {A = ℕ} 0 1 = cc in absurd (omega arith)
+on-turn n (stop (Ok v)) h b q = let z : ◌≡◌ {A = ℕ} 0 1 = cc in absurd (omega arith)
+on-turn n (stop (Err k)) h b q = let z : ◌≡◌ {A = ℕ} 0 1 = cc in absurd (omega arith)
 
-pub decided-turn : (t : RootTurn) (v : Result Verdict ℕ) → Decided v ≡ turn_of t → t ≡ stop v
+pub decided-turn : (t : RootTurn) (v : Verdict) → Ok (Decided v) ≡ turn_of t → t ≡ stop (Ok v)
 unfolding turn_of
 decided-turn (go p) v q = let z : ◌≡◌ {A = ℕ} 0 1 = cc in absurd (omega arith)
-decided-turn (stop w) v q = cc
+decided-turn (stop (Ok w)) v q = let f : v ≡ w = cc in ap (λ (u : Verdict). stop (Ok u)) (sym f)
+decided-turn (stop (Err k)) v q = let z : ◌≡◌ {A = ℕ} 0 1 = cc in absurd (omega arith)
+
+pub refused-turn : (t : RootTurn) (n : ℕ) → Err n ≡ turn_of t → t ≡ stop (Err n)
+unfolding turn_of
+refused-turn (go p) n q = let z : ◌≡◌ {A = ℕ} 0 1 = cc in absurd (omega arith)
+refused-turn (stop (Ok w)) n q = let z : ◌≡◌ {A = ℕ} 0 1 = cc in absurd (omega arith)
+refused-turn (stop (Err k)) n q = let f : n ≡ k = cc in ap (λ (u : ℕ). stop (Err u)) (sym f)
 
 -- ---- a range list
 
@@ -153,18 +161,22 @@ module _ (e : Encoding) (table s : List ℕ) where
       pub range-less : length s - x.next.at < length s - at
       range-less = omega (arith, (entry-inside e false s at x (sym q ∙ r)).0, (entry-inside e false s at x (sym q ∙ r)).1)
 
-      module _ (w : RangeTurn) (l : w ≡ turn_of (range_entry e table dead x)) where
+      module _ (w : Result RangeTurn ℕ) (l : w ≡ turn_of (range_entry e table dead x)) where
         entry-turn : (t : RootTurn) → range_entry e table dead x ≡ t → ranges_from at dead ≡ on_next t (walk place (length s) range_turn (Ok is_dead))
         unfolding range_step
         entry-turn t k = range-turn ∙ rw (r, k)
 
-        pub range-on : (b : Bool) → w ≡ On b → ranges_from at dead ≡ ranges_from x.next.at b
+        pub range-on : (b : Bool) → w ≡ Ok (On b) → ranges_from at dead ≡ ranges_from x.next.at b
         unfolding on_next ranges_from
         range-on b k = entry-turn (toward x b) (on-turn x.next.at (range_entry e table dead x) (entry-heads x e table dead) b (sym k ∙ l))
 
-        pub range-decided : (v : Result Verdict ℕ) → w ≡ Decided v → ranges_from at dead ≡ v
+        pub range-decided : (v : Verdict) → w ≡ Ok (Decided v) → ranges_from at dead ≡ Ok v
         unfolding on_next
-        range-decided v k = entry-turn (stop v) (decided-turn (range_entry e table dead x) v (sym k ∙ l))
+        range-decided v k = entry-turn (stop (Ok v)) (decided-turn (range_entry e table dead x) v (sym k ∙ l))
+
+        pub range-refused : (n : ℕ) → w ≡ Err n → ranges_from at dead ≡ Err n
+        unfolding on_next
+        range-refused n k = entry-turn (stop (Err n)) (refused-turn (range_entry e table dead x) n (sym k ∙ l))
 
 -- ---- a location
 

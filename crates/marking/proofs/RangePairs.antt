@@ -27,7 +27,7 @@ use Rattle.readers.specs.declared.fields.Operands.{Operands}
 use Rattle.marking.specs.Addresses.{is_tombstone}
 use Rattle.marking.specs.Walking.{go, stop, on_next, walk}
 use Rattle.marking.proofs.Walking.{Forward, walk_step}
-use Rattle.marking.proofs.Lists.{Heads, on-turn, decided-turn}
+use Rattle.marking.proofs.Lists.{Heads, on-turn, decided-turn, refused-turn}
 use Rattle.marking.specs.Roots.{Flagged, place, RootTurn, past_pair, turn_of, range_pair, pair_step, pairs_live}
 use Rattle.marking.specs.declared.root_test.RangeTurn.{RangeTurn}
 use Rattle.marking.specs.declared.root_test.RangeTurn.TheVariants.{On, Decided}
@@ -89,7 +89,7 @@ module _ (e : Encoding) (dead : Bool) (r : Operands) where
   abbrev end : ℕ
   end = r.second.value
 
-  pub pair_end : begin ≡ 0 → end ≡ 0 → Decided (Ok is_dead) ≡ turn_of (range_pair e dead r)
+  pub pair_end : begin ≡ 0 → end ≡ 0 → Ok (Decided is_dead) ≡ turn_of (range_pair e dead r)
   unfolding range_pair turn_of pick ◌and◌
   pair_end a b = rw (eq-eqb begin 0 a, eq-eqb end 0 b)
 
@@ -101,8 +101,8 @@ module _ (e : Encoding) (dead : Bool) (r : Operands) where
       (λ t. pick-either (Heads r.third.end) (dead or is_tombstone begin e.address_size) (past_pair r dead) (stop (Ok is_live)) (λ t. refl) (λ t. tt)))
 
   -- where it goes on, its numbers are not both 0
-  pair-some : (b : Bool) → On b ≡ turn_of (range_pair e dead r) → (begin ≡ 0) × (end ≡ 0) → ⊥
-  pair-some b q z = let y : On b ≡ Decided (Ok is_dead) = q ∙ sym (pair_end z.0 z.1) in let z : ◌≡◌ {A = ℕ} 0 1 = cc in omega (arith, z)
+  pair-some : (b : Bool) → Ok (On b) ≡ turn_of (range_pair e dead r) → (begin ≡ 0) × (end ≡ 0) → ⊥
+  pair-some b q z = let y : ◌≡◌ {A = Result RangeTurn ℕ} (Ok (On b)) (Ok (Decided is_dead)) = q ∙ sym (pair_end z.0 z.1) in let z : ◌≡◌ {A = ℕ} 0 1 = cc in omega (arith, z)
 
 -- ---- a list
 
@@ -157,13 +157,13 @@ module _ (e : Encoding) (s : List ℕ) where
       unfolding on_next pair_step
       pairs-none r = sym (row-turn ∙ rw r)
 
-      module _ (r : Operands) (k : o ≡ Some r) (w : RangeTurn) (l : w ≡ turn_of (range_pair e dead r)) where
+      module _ (r : Operands) (k : o ≡ Some r) (w : Result RangeTurn ℕ) (l : w ≡ turn_of (range_pair e dead r)) where
         pair_turn_lem : (t : RootTurn) → range_pair e dead r ≡ t → pairs_live e s (Some c) ≡ on_next t (walk place (length s) pair_turn (Ok is_dead))
         unfolding pair_step
         pair_turn_lem t x = row-turn ∙ rw (k, x)
 
         -- from the cursor past the pair
-        module _ (f : Bool) (x : w ≡ On f) (d : Cursor) (n : d ≡ cursor r.third.end) where
+        module _ (f : Bool) (x : w ≡ Ok (On f)) (d : Cursor) (n : d ≡ cursor r.third.end) where
           pub pairs-on : pairs_live e s (Some c) ≡ pairs_from d.at f
           unfolding on_next pairs_from
           pairs-on =
@@ -178,6 +178,10 @@ module _ (e : Encoding) (s : List ℕ) where
               (λ z. absurd (pair-some e dead r f (sym x ∙ l) z))
               (pair-past e s at r (sym q ∙ k))
 
-        pub pairs-decided : (v : Result Verdict ℕ) → w ≡ Decided v → v ≡ pairs_live e s (Some c)
+        pub pairs-decided : (v : Verdict) → w ≡ Ok (Decided v) → Ok v ≡ pairs_live e s (Some c)
         unfolding on_next
-        pairs-decided v x = sym (pair_turn_lem (stop v) (decided-turn (range_pair e dead r) v (sym x ∙ l)))
+        pairs-decided v x = sym (pair_turn_lem (stop (Ok v)) (decided-turn (range_pair e dead r) v (sym x ∙ l)))
+
+        pub pairs-refused : (n : ℕ) → w ≡ Err n → Err n ≡ pairs_live e s (Some c)
+        unfolding on_next
+        pairs-refused n x = sym (pair_turn_lem (stop (Err n)) (refused-turn (range_pair e dead r) n (sym x ∙ l)))

@@ -22,50 +22,50 @@ use Rattle.marking.specs.declared.addresses.Verdict.TheVariants.{Live as is_live
 module _ (e : Encoding) (table : List ℕ) (dead : Bool) (x : ListEntry) where
   module _ (l : Result Verdict ℕ) (q : l ≡ lookup_at table x.first.value) where
     module _ (k : x.kind ≡ 1) where
-      pub base_live : l ≡ Ok is_live → On false ≡ turn_of (range_entry e table dead x)
+      pub base_live : l ≡ Ok is_live → Ok (On false) ≡ turn_of (range_entry e table dead x)
       unfolding range_entry turn_of pick on_lookup
       base_live v = rw (eq-eqb x.kind 1 k, sym q ∙ v)
 
-      pub base-dead : l ≡ Ok is_dead → On true ≡ turn_of (range_entry e table dead x)
+      pub base-dead : l ≡ Ok is_dead → Ok (On true) ≡ turn_of (range_entry e table dead x)
       unfolding range_entry turn_of pick on_lookup
       base-dead v = rw (eq-eqb x.kind 1 k, sym q ∙ v)
 
-      pub base-fails : (n : ℕ) → l ≡ Err n → Decided (Err n) ≡ turn_of (range_entry e table dead x)
+      pub base-fails : (n : ℕ) → l ≡ Err n → Err n ≡ turn_of (range_entry e table dead x)
       unfolding range_entry turn_of pick on_lookup
       base-fails n v = rw (eq-eqb x.kind 1 k, sym q ∙ v)
 
     module _ (k : x.kind ≡ 1 → ⊥) (h : x.kind ≤ 3) where
-      pub start-live : l ≡ Ok is_live → Decided (Ok is_live) ≡ turn_of (range_entry e table dead x)
+      pub start-live : l ≡ Ok is_live → Ok (Decided is_live) ≡ turn_of (range_entry e table dead x)
       unfolding range_entry turn_of pick on_lookup
       start-live v = rw (ne_eqb x.kind 1 k, le-leb x.kind 3 h, sym q ∙ v)
 
-      pub start-dead : l ≡ Ok is_dead → On dead ≡ turn_of (range_entry e table dead x)
+      pub start-dead : l ≡ Ok is_dead → Ok (On dead) ≡ turn_of (range_entry e table dead x)
       unfolding range_entry turn_of pick on_lookup
       start-dead v = rw (ne_eqb x.kind 1 k, le-leb x.kind 3 h, sym q ∙ v)
 
-      pub start-fails : (n : ℕ) → l ≡ Err n → Decided (Err n) ≡ turn_of (range_entry e table dead x)
+      pub start-fails : (n : ℕ) → l ≡ Err n → Err n ≡ turn_of (range_entry e table dead x)
       unfolding range_entry turn_of pick on_lookup
       start-fails n v = rw (ne_eqb x.kind 1 k, le-leb x.kind 3 h, sym q ∙ v)
 
   module _ (k : x.kind ≡ 1 → ⊥) (h : 3 < x.kind) where
-    pub pair-dead : x.kind ≡ 4 → dead ≡ true → On dead ≡ turn_of (range_entry e table dead x)
+    pub pair-dead : x.kind ≡ 4 → dead ≡ true → Ok (On dead) ≡ turn_of (range_entry e table dead x)
     unfolding range_entry turn_of pick
     pair-dead f d = rw (ne_eqb x.kind 1 k, lt-leb x.kind 3 h, eq-eqb x.kind 4 f, d)
 
-    pub pair-live : x.kind ≡ 4 → dead ≡ false → Decided (Ok is_live) ≡ turn_of (range_entry e table dead x)
+    pub pair-live : x.kind ≡ 4 → dead ≡ false → Ok (Decided is_live) ≡ turn_of (range_entry e table dead x)
     unfolding range_entry turn_of pick
     pair-live f d = rw (ne_eqb x.kind 1 k, lt-leb x.kind 3 h, eq-eqb x.kind 4 f, d)
 
     module _ (f : x.kind ≡ 4 → ⊥) (b : Bool) (q : b ≡ is_tombstone x.first.value e.address_size) where
-      pub base-address : x.kind ≡ 5 → On b ≡ turn_of (range_entry e table dead x)
+      pub base-address : x.kind ≡ 5 → Ok (On b) ≡ turn_of (range_entry e table dead x)
       unfolding range_entry turn_of pick
       base-address g = rw (ne_eqb x.kind 1 k, lt-leb x.kind 3 h, ne_eqb x.kind 4 f, eq-eqb x.kind 5 g, q)
 
-      pub left_out : (x.kind ≡ 5 → ⊥) → b ≡ true → On dead ≡ turn_of (range_entry e table dead x)
+      pub left_out : (x.kind ≡ 5 → ⊥) → b ≡ true → Ok (On dead) ≡ turn_of (range_entry e table dead x)
       unfolding range_entry turn_of pick
       left_out g t = rw (ne_eqb x.kind 1 k, lt-leb x.kind 3 h, ne_eqb x.kind 4 f, ne_eqb x.kind 5 g, sym q ∙ t)
 
-      pub kept : (x.kind ≡ 5 → ⊥) → b ≡ false → Decided (Ok is_live) ≡ turn_of (range_entry e table dead x)
+      pub kept : (x.kind ≡ 5 → ⊥) → b ≡ false → Ok (Decided is_live) ≡ turn_of (range_entry e table dead x)
       unfolding range_entry turn_of pick
       kept g t = rw (ne_eqb x.kind 1 k, lt-leb x.kind 3 h, ne_eqb x.kind 4 f, ne_eqb x.kind 5 g, sym q ∙ t)
 

@@ -57,9 +57,10 @@ abbrev pub toward : ListEntry → Bool → RootTurn
 toward x b = go (record { at = x.next.at; flag = b })
 
 -- as the code answers it
-unfoldable pub turn_of : RootTurn → RangeTurn
-turn_of (go p) = On p.flag
-turn_of (stop v) = Decided v
+unfoldable pub turn_of : RootTurn → Result RangeTurn ℕ
+turn_of (go p) = Ok (On p.flag)
+turn_of (stop (Ok v)) = Ok (Decided v)
+turn_of (stop (Err n)) = Err n
 
 module _ (e : Encoding) (table : List ℕ) where
   -- 7.25: base_addressx 1, startx_endx 2, startx_length 3, offset_pair 4, base_address 5, start_end 6, start_length 7

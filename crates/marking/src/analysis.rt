@@ -229,7 +229,10 @@ fn analyse_entries(
     let mut loclists_base = list_base(e);
     // No for: the reader moves the cursor on, and not every step is an entry.
     loop {
-        match c.entry_head(unit, abbreviations, from, index).ok_or(Refusal(Cause::Entry))? {
+        match c
+            .entry_head(unit, abbreviations, from, index)
+            .ok_or(Refusal(Cause::Entry))?
+        {
             HeadStep::Entry(x) => {
                 if count >= entry_room {
                     return Err(refusal(unit, abbreviations, x, e, Refusal(Cause::EntryTableFull)));

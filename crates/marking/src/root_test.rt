@@ -31,48 +31,47 @@ use readers::refusal::{Cause, Refusal};
 #[derive(Clone, Copy)]
 pub enum RangeTurn {
     On(bool),
-    Decided(Result<Verdict, Refusal>),
+    Decided(Verdict),
 }
 
 // An entry of a range list, whose latest base was dead or not: one turn of gc.rs's `rnglist_has_live_entry`, whose loop
 // is in first_ranges.
-pub fn range_entry(table: &[u8], dead: bool, x: ListEntry, e: Encoding) -> RangeTurn
+pub fn range_entry(
+    table: &[u8],
+    dead: bool,
+    x: ListEntry,
+    e: Encoding,
+) -> Result<RangeTurn, Refusal>
     ensures { result ≡ turn_of (range_entry e table.now dead x) }
 {
     let first = x.first;
     let kind = x.kind;
     if kind == DW_RLE_base_addressx {
-        return match lookup(table, first.value) {
-            Ok(verdict) => match verdict {
-                Verdict::Live => RangeTurn::On(false),
-                Verdict::Dead => RangeTurn::On(true),
-            },
-            Err(n) => RangeTurn::Decided(Err(n)),
+        return match lookup(table, first.value)? {
+            Verdict::Live => Ok(RangeTurn::On(false)),
+            Verdict::Dead => Ok(RangeTurn::On(true)),
         };
     }
     if kind <= DW_RLE_startx_length {
-        return match lookup(table, first.value) {
-            Ok(verdict) => match verdict {
-                Verdict::Live => RangeTurn::Decided(Ok(Verdict::Live)),
-                Verdict::Dead => RangeTurn::On(dead),
-            },
-            Err(n) => RangeTurn::Decided(Err(n)),
+        return match lookup(table, first.value)? {
+            Verdict::Live => Ok(RangeTurn::Decided(Verdict::Live)),
+            Verdict::Dead => Ok(RangeTurn::On(dead)),
         };
     }
     if kind == DW_RLE_offset_pair {
         if dead {
-            return RangeTurn::On(dead);
+            return Ok(RangeTurn::On(dead));
         }
-        return RangeTurn::Decided(Ok(Verdict::Live));
+        return Ok(RangeTurn::Decided(Verdict::Live));
     }
     let left_out = is_tombstone(first.value, e.address_size);
     if kind == DW_RLE_base_address {
-        return RangeTurn::On(left_out);
+        return Ok(RangeTurn::On(left_out));
     }
     if left_out {
-        return RangeTurn::On(dead);
+        return Ok(RangeTurn::On(dead));
     }
-    RangeTurn::Decided(Ok(Verdict::Live))
+    Ok(RangeTurn::Decided(Verdict::Live))
 }
 
 // The older test of a range list of version 5: base_address is skipped, every other entry is live.
@@ -82,7 +81,10 @@ pub fn ranges_has_live_entry(ranges: &[u8], start: Cursor, e: Encoding) -> Resul
     let mut c = start;
     // No for: the reader moves the cursor on.
     loop {
-        match c.list_entry(ranges, false, e).ok_or(Refusal(Cause::ListOrExpression))? {
+        match c
+            .list_entry(ranges, false, e)
+            .ok_or(Refusal(Cause::ListOrExpression))?
+        {
             ListStep::Entry(x) => {
                 if x.kind != DW_RLE_base_address {
                     return Ok(Verdict::Live);
@@ -99,7 +101,7 @@ pub fn ranges_has_live_entry(ranges: &[u8], start: Cursor, e: Encoding) -> Resul
 // A pair of .debug_ranges, where the latest base was dead or not: 0 and 0 end the list, a begin of all ones makes a new
 // base; any other is live unless the base or its begin is a tombstone. One turn of gc.rs's `ranges_has_live_entry` in
 // version 4.
-pub fn range_pair(dead: bool, r: Operands, e: Encoding) -> RangeTurn
+pub fn range_pair(dead: bool, r: Operands, e: Encoding) -> Result<RangeTurn, Refusal>
     ensures { result ≡ turn_of (range_pair e dead r) }
 {
     let first = r.first;
@@ -109,15 +111,15 @@ pub fn range_pair(dead: bool, r: Operands, e: Encoding) -> RangeTurn
     let begin_dead = is_tombstone(begin, e.address_size);
     if begin == 0 {
         if end == 0 {
-            return RangeTurn::Decided(Ok(Verdict::Dead));
+            return Ok(RangeTurn::Decided(Verdict::Dead));
         }
     } else if begin_dead {
-        return RangeTurn::On(is_tombstone(end, e.address_size));
+        return Ok(RangeTurn::On(is_tombstone(end, e.address_size)));
     }
     if dead || begin_dead {
-        return RangeTurn::On(dead);
+        return Ok(RangeTurn::On(dead));
     }
-    RangeTurn::Decided(Ok(Verdict::Live))
+    Ok(RangeTurn::Decided(Verdict::Live))
 }
 
 // The test of a range list of version 4, by its pairs.
@@ -128,15 +130,17 @@ pub fn pairs_live(ranges: &[u8], start: Cursor, e: Encoding) -> Result<Verdict, 
     let mut base_dead = false;
     // No for: the reader moves the cursor on.
     while c.at < ranges.len() {
-        let r = c.row(ranges, ROW_ADDRESS_ADDRESS, e).ok_or(Refusal(Cause::ListOrExpression))?;
+        let r = c
+            .row(ranges, ROW_ADDRESS_ADDRESS, e)
+            .ok_or(Refusal(Cause::ListOrExpression))?;
         let third = r.third;
-        match range_pair(base_dead, r, e) {
+        match range_pair(base_dead, r, e)? {
             RangeTurn::On(flag) => {
                 base_dead = flag;
                 c = third.next();
             }
             RangeTurn::Decided(found) => {
-                return found;
+                return Ok(found);
             }
         }
     }
@@ -359,16 +363,20 @@ pub fn first_ranges(
                     let mut place = start;
                     let mut dead = false;
                     loop {
-                        match place.list_entry(ranges, false, e).ok_or(Refusal(Cause::ListOrExpression))? {
+                        match place
+                            .list_entry(ranges, false, e)
+                            .ok_or(Refusal(Cause::ListOrExpression))?
+                        {
                             ListStep::Entry(x) => {
                                 let after = x.next;
-                                match range_entry(table, dead, x, e) {
+                                match range_entry(table, dead, x, e)? {
                                     RangeTurn::On(flag) => {
                                         dead = flag;
                                         place = after;
                                     }
                                     RangeTurn::Decided(found) => {
-                                        verdict = found;
+                                        // No return: the labelled loop is document 01's form.
+                                        verdict = Ok(found);
                                         break 'attributes;
                                     }
                                 }

@@ -1,10 +1,10 @@
 -- `first_ranges` answers by the first ranges. The outer invariant: the answer over all attributes is that over those from here on, and no verdict is found yet.
 -- The inner one: the answer of the list from its start is that from its place on. Assumes nothing.
-use Rattle.std.specs.Prelude.{Some}
-use Rattle.readers.proofs.Refusing.{refused-none, read_some}
+use Rattle.std.specs.Prelude.{Ok, Some}
+use Rattle.readers.proofs.Refusing.{refused-none, read_some, passed-on}
 use mathlib.Core.Path.{refl, ◌∙◌, ap}
 use Rattle.marking.proofs.RootTests.{first-last, first-bad, first-less, first-unpassed, first_past, first-unread, first-form, first-unresolved, first-decided}
-use Rattle.marking.proofs.Lists.{range-less, range-on, range-decided, range-end, range_none}
+use Rattle.marking.proofs.Lists.{range-less, range-on, range-decided, range-refused, range-end, range_none}
 use borrow.Author.Rules.{rules}
 use Rattle.marking.proofs.root_test.first_ranges.Goals as goal
 
@@ -24,7 +24,7 @@ pub loop-x-smaller : goal.loop-x-smaller
 loop-x-smaller c = let s = read_some _ _ _ _ c.ok_or.ensures.value c.in_ok-x-in-Attribute.was ∙ ap Some c.in-Entry.is in search range-less
 
 pub loop-x-preserved : goal.loop-x-preserved
-loop-x-preserved c = c.loop-x.invariant ∙ (let s = read_some _ _ _ _ c.ok_or.ensures.value c.in_ok-x-in-Attribute.was ∙ ap Some c.in-Entry.is in search range-on)
+loop-x-preserved c = c.loop-x.invariant ∙ (let s = read_some _ _ _ _ c.ok_or.ensures.value c.in_ok-x-in-Attribute.was ∙ ap Some c.in-Entry.is in let f = c.in_ok-flag-in-Entry.was ∙ ap Ok c.in-On.is in search range-on)
 
 pub returns-in-End : goal.returns-in-End
 returns-in-End c = first-decided _ _ _ _ _ _ _ _ _ _ _ c.attributes.invariant.0 _ c.attribute_spec.ensures _ (c.in-Some.is ∙ ap Some c.in-Attribute.is) c.if-a-eq-DW_AT_ranges.true
@@ -51,7 +51,13 @@ pub returns-in-Decided : goal.returns-in-Decided
 returns-in-Decided c = first-decided _ _ _ _ _ _ _ _ _ _ _ c.attributes.invariant.0 _ c.attribute_spec.ensures _ (c.in-Some.is ∙ ap Some c.in-Attribute.is) c.if-a-eq-DW_AT_ranges.true
     _ c.attribute.ensures _ c.in-Some-attribute.is c.if-v-ne-DW_FORM_rnglistx.false _ c.list_offset.ensures
     _ c.in-Some-list_offset.is _ _ c.loop-x.invariant _
-    (range-decided _ _ _ _ _ _ c.list_entry.ensures _ (read_some _ _ _ _ c.ok_or.ensures.value c.in_ok-x-in-Attribute.was ∙ ap Some c.in-Entry.is) _ c.range_entry.ensures _ c.in-Decided.is)
+    (range-decided _ _ _ _ _ _ c.list_entry.ensures _ (read_some _ _ _ _ c.ok_or.ensures.value c.in_ok-x-in-Attribute.was ∙ ap Some c.in-Entry.is) _ c.range_entry.ensures _ (c.in_ok-flag-in-Entry.was ∙ ap Ok c.in-Decided.is))
+
+pub returns-in_err-flag-in-Entry : goal.returns-in_err-flag-in-Entry
+returns-in_err-flag-in-Entry c = passed-on _ _ c.from_residual-in_err-flag-in-Entry.ensures.1 ∙ first-decided _ _ _ _ _ _ _ _ _ _ _ c.attributes.invariant.0 _ c.attribute_spec.ensures _ (c.in-Some.is ∙ ap Some c.in-Attribute.is) c.if-a-eq-DW_AT_ranges.true
+    _ c.attribute.ensures _ c.in-Some-attribute.is c.if-v-ne-DW_FORM_rnglistx.false _ c.list_offset.ensures
+    _ c.in-Some-list_offset.is _ _ c.loop-x.invariant _
+    (range-refused _ _ _ _ _ _ c.list_entry.ensures _ (read_some _ _ _ _ c.ok_or.ensures.value c.in_ok-x-in-Attribute.was ∙ ap Some c.in-Entry.is) _ c.range_entry.ensures _ c.in_err-flag-in-Entry.was)
 
 pub returns-in_default-past_attribute : goal.returns-in_default-past_attribute
 returns-in_default-past_attribute c = let r = c.in-Some.is ∙ ap Some c.in-Attribute.is in search first-unpassed
