@@ -1,15 +1,19 @@
 -- The forms of indices, by what they are compared with. Assumes nothing.
-use mathlib.Core.Path.{◌≡◌, refl, sym}
+use mathlib.Core.Path.{◌≡◌, refl, ap, sym, ◌∙◌}
 use Prim.Native.Nat.{ℕ, ◌≤◌, ◌<◌}
 use native.Mathlib.Omega.{arith}
-use mathlib.Core.Bool.{Bool, true, false}
+use mathlib.Core.Bool.{Bool, true, false, true≢false}
 use lib.Dec.{T, eqb, leb}
 use mir.Facts.{leb_yes, eqb_yes}
 use borrow.Author.Tests.{ne_eqb, le-leb, lt-leb}
+use Rattle.std.specs.Prelude.{Option, Some, None}
+use Rattle.std.specs.Option.{is_some}
+use Rattle.readers.specs.declared.attributes.IndexKind.{IndexKind}
 use Rattle.readers.specs.Choice.{pick, ◌and◌, ◌or◌}
 use Rattle.readers.specs.Layout.{reference, sibling, index, absolute}
 use Rattle.readers.specs.Tokens.{plain, as'}
 use Rattle.readers.specs.Forms.{use_of, list_form}
+use Rattle.readers.specs.IndexNumber.{list_number}
 use Rattle.readers.specs.Inner.Forms.{role_list, use_list}
 
 module _ (f : ℕ) where
@@ -55,6 +59,19 @@ module _ (f : ℕ) where
         lt-leb f 0x28 hi,
         ne_eqb f 0x1f02 d,
       )
+
+-- ---- the number of a list, by its kind
+
+module _ (n : ℕ) (o : Option IndexKind) (is : list_number o ≡ n) where
+  pub number-some : (k kind : IndexKind) → o ≡ Some k → k ≡ kind → n ≡ list_number (Some kind)
+  number-some k kind p q = sym is ∙ ap list_number (p ∙ ap Some q)
+
+  pub number-none : o ≡ None → n ≡ 3
+  number-none p = sym is ∙ ap list_number p
+
+pub is-none : (o : Option IndexKind) → is_some o ≡ false → o ≡ None
+is-none (Some k) h = absurd (true≢false h)
+is-none None h = refl
 
 -- ---- the list of a use
 

@@ -6,6 +6,7 @@ pub mod Tokens
 pub mod Operations
 pub mod Scan
 pub mod Expression
+pub mod IndexNumber
 pub mod Forms
 pub mod Cursors
 pub mod Fields

@@ -14,6 +14,7 @@ use crate::codes::{
 use crate::cursor::{Cursor, Encoding};
 use crate::fields::{Field, number_field};
 use crate::layouts::*;
+use std::marker::Model;
 
 // The value of an attribute: the form that it has, behind DW_FORM_indirect too, and its field.
 #[derive(Clone, Copy)]
@@ -96,15 +97,44 @@ pub fn in_version(version: u16, form: u64) -> bool
     }
 }
 
-// The number of the index list of a form: 0 ranges, 1 locations, 2 strings; 3 for a form that is no index.
-pub fn list_of(form: u64) -> u8
+// What the numbers of an index list are indices of.
+#[derive(Clone, Copy)]
+pub enum IndexKind {
+    Ranges,
+    Locations,
+    Strings,
+}
+
+// The index list that a form counts in; none for a form that is no index. Contracts see its number: 0 ranges,
+// 1 locations, 2 strings, 3 none.
+#[derive(Clone, Copy)]
+pub struct IndexList(pub Option<IndexKind>);
+
+impl Model for IndexList {
+    ghost use Rattle.std.specs.Prelude.{ℕ};
+    ghost use mathlib.Core.Path.{ap};
+    ghost use Rattle.readers.specs.IndexNumber.{list_number, list_numbered, list_numbered-list_number};
+
+    ghost Value = { ℕ };
+
+    ghost view = { λ l. list_number l.0 };
+
+    ghost inverse = { λ n. record { 0 = list_numbered n } };
+
+    ghost inverse_ok = { λ a h. ap (λ o. record { 0 = o }) (list_numbered-list_number a.0) };
+}
+
+// The index list of a form.
+pub fn list_of(form: u64) -> IndexList
     ensures { result ≡ list_form form }
 {
     match form {
-        DW_FORM_rnglistx => 0,
-        DW_FORM_loclistx => 1,
-        DW_FORM_strx | DW_FORM_strx1..=DW_FORM_strx4 | DW_FORM_GNU_str_index => 2,
-        _ => 3,
+        DW_FORM_rnglistx => IndexList(Some(IndexKind::Ranges)),
+        DW_FORM_loclistx => IndexList(Some(IndexKind::Locations)),
+        DW_FORM_strx | DW_FORM_strx1..=DW_FORM_strx4 | DW_FORM_GNU_str_index => {
+            IndexList(Some(IndexKind::Strings))
+        }
+        _ => IndexList(None),
     }
 }
 

@@ -25,7 +25,7 @@ use crate::map::hinted_offset;
 use crate::numbers::{put_bytes, put_number};
 use crate::siblings::sibling_offset;
 use readers::abbreviations::SpecStep;
-use readers::attributes::{Attribute, list_of};
+use readers::attributes::{Attribute, IndexKind, list_of};
 use readers::codes::{
     DW_AT_sibling, DW_FORM_GNU_str_index, DW_FORM_exprloc, DW_FORM_indirect, DW_FORM_loclistx,
     DW_FORM_ref_udata, DW_FORM_ref1, DW_FORM_rnglistx, DW_FORM_strx,
@@ -228,16 +228,14 @@ fn emit_attribute(
         return after(to, emit_offset(new, width(field), leb, e.big_endian, part));
     }
     let list = list_of(form);
-    if list > 2 {
+    let Some(kind) = list.0 else {
         let n = emit_bytes(bytes_between(unit, field.start, field.end), part);
         return Ok(to + n);
-    }
-    let index = if list == 0 {
-        new_index(ranges, ranges_count, field.value, 0, bounds)
-    } else if list == 1 {
-        new_index(locations, locations_count, field.value, 1, bounds)
-    } else {
-        new_index(strings, strings_count, field.value, 2, bounds)
+    };
+    let index = match kind {
+        IndexKind::Ranges => new_index(ranges, ranges_count, field.value, 0, bounds),
+        IndexKind::Locations => new_index(locations, locations_count, field.value, 1, bounds),
+        IndexKind::Strings => new_index(strings, strings_count, field.value, 2, bounds),
     };
     after(
         to,
@@ -259,7 +257,7 @@ fn copies(form: u64) -> bool
 {
     (form < DW_FORM_ref1 || form > DW_FORM_indirect)
         && form != DW_FORM_exprloc
-        && list_of(form) == 3
+        && list_of(form).0.is_none()
 }
 
 // The next attribute of an entry, if it has one: of a value that is copied no more is read than where it ends.

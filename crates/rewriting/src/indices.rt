@@ -14,7 +14,7 @@ ghost use Rattle.rewriting.specs.Inner.IndexLists.{Settles};
 use crate::gathering::{add, finish};
 use crate::kept_items::{KeptItem, PassPosition, Reading, next_kept};
 use readers::abbreviations::{DeclarationStep, SpecStep};
-use readers::attributes::list_of;
+use readers::attributes::{IndexKind, IndexList, list_of};
 use readers::codes::DW_FORM_sec_offset;
 use readers::cursor::{Cursor, Encoding};
 use readers::entries::Step;
@@ -104,46 +104,44 @@ pub struct Lengths {
     pub strings: usize,
 }
 
-// One value more in the list of a kind: 0 ranges, 1 locations, 2 strings, 3 none.
+// One value more in its index list, if it has one.
 fn put_by_kind(
-    kind: u8,
+    list: IndexList,
     value: u64,
     range_list: &mut [u8],
     location_list: &mut [u8],
     string_list: &mut [u8],
     g: Lengths,
 ) -> Lengths
-    ensures { Gathers (kind_index 0 kind value) g.ranges range_list.old result.ranges range_list.new
-        × (Gathers (kind_index 1 kind value)
+    ensures { Gathers (kind_index 0 list value) g.ranges range_list.old result.ranges range_list.new
+        × (Gathers (kind_index 1 list value)
         g.locations location_list.old result.locations location_list.new
-        × Gathers (kind_index 2 kind value)
+        × Gathers (kind_index 2 list value)
         g.strings string_list.old result.strings string_list.new) }
 {
     let ranges = g.ranges;
     let locations = g.locations;
     let strings = g.strings;
-    if kind == 0 {
-        return Lengths {
+    let Some(kind) = list.0 else {
+        return g;
+    };
+    match kind {
+        IndexKind::Ranges => Lengths {
             ranges: add(range_list, ranges, value),
             locations,
             strings,
-        };
-    }
-    if kind == 1 {
-        return Lengths {
+        },
+        IndexKind::Locations => Lengths {
             ranges,
             locations: add(location_list, locations, value),
             strings,
-        };
-    }
-    if kind == 2 {
-        return Lengths {
+        },
+        IndexKind::Strings => Lengths {
             ranges,
             locations,
             strings: add(string_list, strings, value),
-        };
+        },
     }
-    g
 }
 
 // The indices of an entry, each in its list.

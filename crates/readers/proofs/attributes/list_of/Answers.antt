@@ -10,13 +10,7 @@ pub returns-in-34 : goal.returns-in-34
 returns-in-34 c = list-locations _ c.in-34.is
 
 pub returns-in-26 : goal.returns-in-26
-returns-in-26 c = grind (arith, list-strings, list-gnu)
-
-pub returns-in-26-2 : goal.returns-in-26-2
-returns-in-26-2 c = list-fixed _ (omega arith) (omega arith)
+returns-in-26 c = grind (arith, list-strings, list-gnu, list-fixed)
 
 pub returns-in_default : goal.returns-in_default
-returns-in_default c = grind (arith, list-low)
-
-pub returns-in_default-2 : goal.returns-in_default-2
-returns-in_default-2 c = grind (arith, list-high)
+returns-in_default c = grind (arith, list-low, list-high)

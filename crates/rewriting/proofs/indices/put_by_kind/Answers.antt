@@ -1,16 +1,26 @@
 -- `put_by_kind`: the list of the kind gets the value, the others stay. Assumes nothing.
+use mathlib.Core.Path.{◌≡◌}
 use native.Mathlib.Omega.{arith}
-use Rattle.rewriting.proofs.ListPass.Holdings.{puts-kind, puts-other, puts-apart}
+use Rattle.readers.proofs.FormKinds.{number-some, number-none}
+use Rattle.rewriting.proofs.ListPass.Holdings.{puts-kind, puts-apart}
 use Rattle.rewriting.proofs.indices.put_by_kind.Goals as goal
 
-pub returns-then-kind-eq0 : goal.returns-then-kind-eq0
-returns-then-kind-eq0 c = (puts-kind _ _ _ 0 _ c.if-kind-eq0.true _ _ c.add.ensures, (puts-apart _ _ _ 1 _ 0 c.if-kind-eq0.true (λ q. omega arith), puts-apart _ _ _ 2 _ 0 c.if-kind-eq0.true (λ q. omega arith)))
+pub returns-in-Ranges : goal.returns-in-Ranges
+returns-in-Ranges c =
+    let q : c.args.list ≡ 0 = number-some _ _ c.list.view_is _ _ c.in-Some.is c.in-Ranges.is in
+    (puts-kind _ _ _ 0 _ q _ _ c.add.ensures, (puts-apart _ _ _ 1 _ 0 q (λ z. omega arith), puts-apart _ _ _ 2 _ 0 q (λ z. omega arith)))
 
-pub returns-then-kind-eq1 : goal.returns-then-kind-eq1
-returns-then-kind-eq1 c = (puts-apart _ _ _ 0 _ 1 c.if-kind-eq1.true (λ q. omega arith), (puts-kind _ _ _ 1 _ c.if-kind-eq1.true _ _ c.add-then-kind-eq1.ensures, puts-apart _ _ _ 2 _ 1 c.if-kind-eq1.true (λ q. omega arith)))
+pub returns-in-Locations : goal.returns-in-Locations
+returns-in-Locations c =
+    let q : c.args.list ≡ 1 = number-some _ _ c.list.view_is _ _ c.in-Some.is c.in-Locations.is in
+    (puts-apart _ _ _ 0 _ 1 q (λ z. omega arith), (puts-kind _ _ _ 1 _ q _ _ c.add-in-Locations.ensures, puts-apart _ _ _ 2 _ 1 q (λ z. omega arith)))
 
-pub returns-then-kind-eq2 : goal.returns-then-kind-eq2
-returns-then-kind-eq2 c = (puts-apart _ _ _ 0 _ 2 c.if-kind-eq2.true (λ q. omega arith), (puts-apart _ _ _ 1 _ 2 c.if-kind-eq2.true (λ q. omega arith), puts-kind _ _ _ 2 _ c.if-kind-eq2.true _ _ c.add-then-kind-eq2.ensures))
+pub returns-in-Strings : goal.returns-in-Strings
+returns-in-Strings c =
+    let q : c.args.list ≡ 2 = number-some _ _ c.list.view_is _ _ c.in-Some.is c.in-Strings.is in
+    (puts-apart _ _ _ 0 _ 2 q (λ z. omega arith), (puts-apart _ _ _ 1 _ 2 q (λ z. omega arith), puts-kind _ _ _ 2 _ q _ _ c.add-in-Strings.ensures))
 
-pub returns : goal.returns
-returns c = (puts-other _ _ _ 0 _ c.if-kind-eq0.false, (puts-other _ _ _ 1 _ c.if-kind-eq1.false, puts-other _ _ _ 2 _ c.if-kind-eq2.false))
+pub returns-in_default : goal.returns-in_default
+returns-in_default c =
+    let q : c.args.list ≡ 3 = number-none _ _ c.list.view_is c.in_default.is in
+    (puts-apart _ _ _ 0 _ 3 q (λ z. omega arith), (puts-apart _ _ _ 1 _ 3 q (λ z. omega arith), puts-apart _ _ _ 2 _ 3 q (λ z. omega arith)))
