@@ -5,12 +5,12 @@ use native.Mathlib.Omega.{arith}
 use mathlib.Core.Bool.{Bool, true, false}
 use mathlib.Core.List.{List}
 use lib.Dec.{eqb}
-use mir.Facts.{eqb_yes, eqb_no, yes_eqb, no_eqb}
+use mir.Facts.{eqb_yes, eqb_no}
 use Rattle.readers.specs.Header.{header_of}
 use Rattle.readers.specs.declared.header.UnitHeader.{UnitHeader}
 use Rattle.std.specs.Prelude.{Err, Ok, Option, Result, Some}
 use Rattle.readers.specs.Choice.{pick}
-use Rattle.readers.proofs.Choice.{pick_yes, pick_no, pick-either}
+use Rattle.readers.proofs.Choice.{pick-either}
 use Rattle.marking.specs.KeepList.{keep_refusal, list_answer}
 use Rattle.marking.specs.Analysis.{Sections, Rooms, EntryRow, analysed, after_list, header_by, header_analysed, analysis_of}
 

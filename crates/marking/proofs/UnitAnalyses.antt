@@ -10,8 +10,6 @@ use mir.Facts.{leb_yes, leb_no}
 use Rattle.readers.specs.Choice.{zeros}
 use Rattle.readers.proofs.Choice.{pick-either}
 use Rattle.readers.specs.Abbreviations.{Placed, abbreviations_of, as_checked, checked_of, index_for, index_of}
-use Rattle.readers.specs.declared.abbreviations.Checked.{Checked}
-use Rattle.readers.specs.declared.abbreviations.Checked.TheVariants.{Accepted, Refused as Undeclared}
 use Rattle.readers.specs.declared.header.UnitHeader.{UnitHeader}
 use Rattle.readers.proofs.Declarations.{length-indexed}
 use Rattle.marking.specs.Analysis.{Sections, Rooms, rooms, EntryRow, Analysed, analysed, refused, on_declared, unit_analysed, after_list, header_by, header_analysed, analysis_of}
@@ -150,7 +148,7 @@ module _ (abbreviations : List ℕ) (r : Result (Option UnitHeader) ℕ) where
   unfolding unit_found index_after
   found-refused n e k index i = (sym (ap (unit_found abbreviations) e), i ∙ sym (ap (λ (q : Result (Option UnitHeader) ℕ). index_after abbreviations q k) e))
 
-  pub found-checked : (h : UnitHeader) → r ≡ Ok (Some h) → (c : Checked) → checked_of abbreviations h.abbreviations ≡ c
+  pub found-checked : (h : UnitHeader) → r ≡ Ok (Some h) → (c : Result (Unit {0}) ℕ) → checked_of abbreviations h.abbreviations ≡ c
       → (k' k : ℕ) → k' ≡ k → (index : List ℕ) → index ≡ index_of abbreviations h.abbreviations k'
       → (unit_checked h c ≡ unit_found abbreviations r) × (index ≡ index_after abbreviations r k)
   unfolding unit_found index_after
@@ -166,18 +164,18 @@ pub found-by : (abbreviations : List ℕ) (o r : Result (Option UnitHeader) ℕ)
 found-by abbreviations o r f index k e q =
     (q.0 ∙ sym (ap (unit_found abbreviations) e), q.1 ∙ sym (ap (λ (h : Result (Option UnitHeader) ℕ). index_after abbreviations h k) e))
 
-unit-checked : (h h' : UnitHeader) (c : Checked) → Found' h ≡ unit_checked h' c → (h' ≡ h) × (c ≡ Accepted)
+unit-checked : (h h' : UnitHeader) (c : Result (Unit {0}) ℕ) → Found' h ≡ unit_checked h' c → (h' ≡ h) × (c ≡ Ok tt)
 unfolding unit_checked
-unit-checked h h' Accepted q = let e : h' ≡ h = cc in (e, refl)
-unit-checked h h' Undeclared q = let z : ◌≡◌ {A = ℕ} 0 1 = cc in absurd (omega arith)
+unit-checked h h' (Ok u) q = let e : h' ≡ h = cc in (e, refl)
+unit-checked h h' (Err n) q = let z : ◌≡◌ {A = ℕ} 0 1 = cc in absurd (omega arith)
 
 unit-found : (abbreviations : List ℕ) (r : Result (Option UnitHeader) ℕ) (h : UnitHeader) → Found' h ≡ unit_found abbreviations r
-    → (r ≡ Ok (Some h)) × (checked_of abbreviations h.abbreviations ≡ Accepted)
+    → (r ≡ Ok (Some h)) × (checked_of abbreviations h.abbreviations ≡ Ok tt)
 unfolding unit_found
 unit-found abbreviations (Ok None) h q = let z : ◌≡◌ {A = ℕ} 0 1 = cc in absurd (omega arith)
 unit-found abbreviations (Err n) h q = let z : ◌≡◌ {A = ℕ} 0 1 = cc in absurd (omega arith)
 unit-found abbreviations (Ok (Some h')) h q =
-    let u : (h' ≡ h) × (checked_of abbreviations h'.abbreviations ≡ Accepted) = unit-checked h h' _ q in
+    let u : (h' ≡ h) × (checked_of abbreviations h'.abbreviations ≡ Ok tt) = unit-checked h h' _ q in
     (ap (λ g. Ok (Some g)) u.0, ap (λ (g : UnitHeader). checked_of abbreviations g.abbreviations) (sym u.0) ∙ u.1)
 
 index-found : (abbreviations : List ℕ) (r : Result (Option UnitHeader) ℕ) (h : UnitHeader) (k : ℕ) (index : List ℕ) → r ≡ Ok (Some h)
@@ -192,7 +190,7 @@ pub unit-ready : (keep : KeepList) (own : Result (Option UnitHeader) ℕ) (abbre
     → Clear nf np nr ne nt offsets parents roots ends targets
     → AnalysisInput abbreviations index h.abbreviations (take h.end section) n m offsets parents roots ends targets keep
 unit-ready keep own abbreviations index section h k {entries} {references} {n} {m} nf np nr ne nt offsets parents roots ends targets q i r c =
-    let u : (after_list (keep_refusal keep) own ≡ Ok (Some h)) × (checked_of abbreviations h.abbreviations ≡ Accepted) = unit-found abbreviations (after_list (keep_refusal keep) own) h q in
+    let u : (after_list (keep_refusal keep) own ≡ Ok (Some h)) × (checked_of abbreviations h.abbreviations ≡ Ok tt) = unit-found abbreviations (after_list (keep_refusal keep) own) h q in
     let j : index ≡ index_of abbreviations h.abbreviations k = index-found abbreviations (after_list (keep_refusal keep) own) h k index u.0 i in
     let e₁ : n ≡ least entries (least (least (length offsets) (length parents)) (least (length roots) (length ends))) = r.rows in
     let e₂ : m ≡ least references (length targets) = r.names in

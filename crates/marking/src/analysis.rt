@@ -17,7 +17,7 @@ use crate::keep_list::{judge, treat, treatment};
 use crate::references::{EntryScan, scan_live_die_attrs};
 use crate::root_test::{base_after, is_root};
 use crate::setting::Setting;
-use readers::abbreviations::{Checked, check_abbreviations};
+use readers::abbreviations::check_abbreviations;
 use readers::codes::{DW_AT_loclists_base, DW_AT_rnglists_base};
 use readers::cursor::{Cursor, Encoding};
 use readers::entries::{EntryHead, HeadStep, Nesting};
@@ -229,7 +229,10 @@ fn analyse_entries(
     let mut loclists_base = list_base(e);
     // No for: the reader moves the cursor on, and not every step is an entry.
     loop {
-        match c.entry_head(unit, abbreviations, from, index).ok_or(Refusal(Cause::Entry))? {
+        match c
+            .entry_head(unit, abbreviations, from, index)
+            .ok_or(Refusal(Cause::Entry))?
+        {
             HeadStep::Entry(x) => {
                 if count >= entry_room {
                     return Err(refusal(unit, abbreviations, x, e, Refusal(Cause::EntryTableFull)));
@@ -459,13 +462,10 @@ fn find_unit(
             entries: 0,
             references: 0,
         })),
-        Some(h) => {
-            let Checked::Accepted = check_abbreviations(abbreviations, h.abbreviations, index)
-            else {
-                return UnitFound::Answered(Err(Refusal(Cause::Abbreviations)));
-            };
-            UnitFound::Unit(*h)
-        }
+        Some(h) => match check_abbreviations(abbreviations, h.abbreviations, index) {
+            Ok(()) => UnitFound::Unit(*h),
+            Err(n) => UnitFound::Answered(Err(n)),
+        },
     }
 }
 

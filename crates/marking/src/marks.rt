@@ -179,7 +179,12 @@ pub(crate) fn mark_with(
 // round that raises no mark is the last. A chain of references is followed in one round where its pairs stand in its
 // order, one link a round where they stand against it. A mark rises at most twice, so n entries take at most 2n + 1
 // rounds. The marks of a unit are made by `mark_with`.
-pub fn mark(parents: &[u64], pairs: &[u64], roots: &[u8], marks: &mut [u8]) -> Result<usize, Refusal>
+pub fn mark(
+    parents: &[u64],
+    pairs: &[u64],
+    roots: &[u8],
+    marks: &mut [u8],
+) -> Result<usize, Refusal>
     ensures { let lent = graph parents.now pairs.now roots.now in
         (result ≡ mark_answer lent (length marks.old))
         × (marks.new ≡ end_marks lent (length marks.old)) }

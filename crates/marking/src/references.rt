@@ -122,7 +122,10 @@ fn scan_loclist_for_refs(
     let mut to = at;
     // No for: the reader moves the cursor on.
     loop {
-        match c.list_entry(s, true, e).ok_or(Refusal(Cause::ListOrExpression))? {
+        match c
+            .list_entry(s, true, e)
+            .ok_or(Refusal(Cause::ListOrExpression))?
+        {
             ListStep::Entry(x) => {
                 let next = x.next;
                 to = scan_location(s, x, e, targets, to)?;
@@ -147,7 +150,13 @@ fn scan_loclist_at(
         (result ≡ scanned_to (length targets.old) at found)
         × (targets.new ≡ table_after targets.old at found) }
 {
-    scan_loclist_for_refs(s, start.ok_or(Refusal(Cause::ListOrExpression))?, e, targets, at)
+    scan_loclist_for_refs(
+        s,
+        start.ok_or(Refusal(Cause::ListOrExpression))?,
+        e,
+        targets,
+        at,
+    )
 }
 
 // The references of an attribute.

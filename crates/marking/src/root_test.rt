@@ -82,7 +82,10 @@ pub fn ranges_has_live_entry(ranges: &[u8], start: Cursor, e: Encoding) -> Resul
     let mut c = start;
     // No for: the reader moves the cursor on.
     loop {
-        match c.list_entry(ranges, false, e).ok_or(Refusal(Cause::ListOrExpression))? {
+        match c
+            .list_entry(ranges, false, e)
+            .ok_or(Refusal(Cause::ListOrExpression))?
+        {
             ListStep::Entry(x) => {
                 if x.kind != DW_RLE_base_address {
                     return Ok(Verdict::Live);
@@ -128,7 +131,9 @@ pub fn pairs_live(ranges: &[u8], start: Cursor, e: Encoding) -> Result<Verdict, 
     let mut base_dead = false;
     // No for: the reader moves the cursor on.
     while c.at < ranges.len() {
-        let r = c.row(ranges, ROW_ADDRESS_ADDRESS, e).ok_or(Refusal(Cause::ListOrExpression))?;
+        let r = c
+            .row(ranges, ROW_ADDRESS_ADDRESS, e)
+            .ok_or(Refusal(Cause::ListOrExpression))?;
         let third = r.third;
         match range_pair(base_dead, r, e) {
             RangeTurn::On(flag) => {
@@ -359,7 +364,10 @@ pub fn first_ranges(
                     let mut place = start;
                     let mut dead = false;
                     loop {
-                        match place.list_entry(ranges, false, e).ok_or(Refusal(Cause::ListOrExpression))? {
+                        match place
+                            .list_entry(ranges, false, e)
+                            .ok_or(Refusal(Cause::ListOrExpression))?
+                        {
                             ListStep::Entry(x) => {
                                 let after = x.next;
                                 match range_entry(table, dead, x, e) {

@@ -107,7 +107,9 @@ fn fields_4(
     ensures { result ≡ fields4 big_endian offset_size unit.now at }
 {
     let width = offset_size as usize;
-    let (abbreviations, _) = (Cursor { at }).fixed(unit, width, big_endian).ok_or(Refusal(Cause::ShortHeader))?;
+    let (abbreviations, _) = (Cursor { at })
+        .fixed(unit, width, big_endian)
+        .ok_or(Refusal(Cause::ShortHeader))?;
     let size_at = at + width;
     if unit.len() <= size_at {
         return Err(Refusal(Cause::ShortHeader));
@@ -131,7 +133,11 @@ fn fields_4(
 }
 
 // The fields after the length, of a unit that ends where its length says.
-fn header_fields(unit: &[u8], offset_size: u8, big_endian: bool) -> Result<Option<UnitHeader>, Refusal>
+fn header_fields(
+    unit: &[u8],
+    offset_size: u8,
+    big_endian: bool,
+) -> Result<Option<UnitHeader>, Refusal>
     ensures { result ≡ header_fields big_endian offset_size unit.now }
 {
     let (version, next) = (Cursor {
@@ -173,9 +179,13 @@ pub fn unit_header(section: &[u8], big_endian: bool) -> Result<Option<UnitHeader
     if section.len() == 0 {
         return Ok(None);
     }
-    let (length, _) = (Cursor { at: 0 }).fixed(section, 4, big_endian).ok_or(Refusal(Cause::ShortHeader))?;
+    let (length, _) = (Cursor { at: 0 })
+        .fixed(section, 4, big_endian)
+        .ok_or(Refusal(Cause::ShortHeader))?;
     if length == ESCAPE_64 {
-        let (wide, _) = (Cursor { at: 4 }).fixed(section, 8, big_endian).ok_or(Refusal(Cause::ShortHeader))?;
+        let (wide, _) = (Cursor { at: 4 })
+            .fixed(section, 8, big_endian)
+            .ok_or(Refusal(Cause::ShortHeader))?;
         return header_in(section, wide, 8, big_endian);
     }
     if length >= FIRST_RESERVED {

@@ -3,9 +3,7 @@ use Rattle.std.specs.Prelude.{◌≡◌, ℕ, ◌≤◌, List, length, Err, None
 use Rattle.readers.specs.Choice.{zeros}
 use Rattle.readers.specs.Abbreviations.{checked_of, index_of}
 use Rattle.readers.specs.Inner.Entries.{entry_of}
-use Rattle.readers.specs.Refusals.{refusal_of_checked, refusal_of_step}
-use Rattle.readers.specs.declared.abbreviations.Checked.{Checked}
-use Rattle.readers.specs.declared.abbreviations.Checked.TheVariants.{Accepted, Refused as Undeclared}
+use Rattle.readers.specs.Refusals.{refusal_of_step}
 use Rattle.readers.specs.declared.cursor.Cursor.{Cursor}
 use Rattle.readers.specs.declared.entries.Entry.{Entry}
 use Rattle.readers.specs.declared.entries.EntryHead.{EntryHead}
@@ -41,7 +39,7 @@ pub record Outcome (a : Analysed) (offsets₀ parents₀ roots₀ ends₀ target
 -- list that was taken
 pub record AnalysisInput (abbreviations index : List ℕ) (from : ℕ) (unit : List ℕ) (entry_room reference_room : ℕ)
     (offsets parents roots ends targets : List ℕ) (keep : KeepList) : Type 0 where
-  pub accepted : checked_of abbreviations from ≡ Accepted
+  pub accepted : checked_of abbreviations from ≡ Ok tt
   pub indexed : index ≡ index_of abbreviations from (length index)
   pub offsets_room : entry_room ≤ length offsets
   pub parents_room : entry_room ≤ length parents
@@ -61,9 +59,9 @@ left_by (Ok a) col = col
 left_by (Err n) col = zeros (length col)
 
 -- what is to be analysed, by the header and the check of the declarations
-unfoldable pub unit_checked : UnitHeader → Checked → UnitFound
-unit_checked h Accepted = Found' h
-unit_checked h Undeclared = Answered (Err (refusal_of_checked Undeclared))
+unfoldable pub unit_checked : UnitHeader → Result (Unit {0}) ℕ → UnitFound
+unit_checked h (Ok u) = Found' h
+unit_checked h (Err n) = Answered (Err n)
 
 unfoldable pub unit_found : List ℕ → Result (Option UnitHeader) ℕ → UnitFound
 unit_found abbreviations (Ok None) = Answered (entries_counted 0 0)
