@@ -174,7 +174,23 @@ module _ (e : Encoding) (fixed : Bool) (table : List ℕ) (op : Operation) where
   index_live k w q = q ∙ rw (eq-eqb op.row 22 k)
 
   module _ (n : op.row ≡ 22 → ⊥) where
+    pub not-counted : fixed ≡ false → Ok is_dead ≡ operation_live e fixed table op
+    unfolding operation_live pick ◌and◌
+    not-counted f = rw (ne_eqb op.row 22 n, f)
+
+    pub no_address : (op.row ≡ 2 → ⊥) → Ok is_dead ≡ operation_live e fixed table op
+    unfolding operation_live pick ◌and◌
+    no_address k = other fixed
+      where
+        other : (b : Bool) → Ok is_dead ≡ operation_live e b table op
+        other true = rw (ne_eqb op.row 22 n, ne_eqb op.row 2 k)
+        other false = rw (ne_eqb op.row 22 n)
+
     module _ (f : fixed ≡ true) (k : op.row ≡ 2) (t : Bool) (q : t ≡ is_tombstone op.first.value e.address_size) where
+      pub address-dead : t ≡ true → Ok is_dead ≡ operation_live e fixed table op
+      unfolding operation_live pick ◌and◌
+      address-dead v = rw (ne_eqb op.row 22 n, f, eq-eqb op.row 2 k, sym q ∙ v)
+
       pub address-live : t ≡ false → Ok is_live ≡ operation_live e fixed table op
       unfolding operation_live pick ◌and◌
       address-live v = rw (ne_eqb op.row 22 n, f, eq-eqb op.row 2 k, sym q ∙ v)

@@ -1,4 +1,4 @@
--- The address table, by the tests that were made. Assumes nothing.
+-- Tombstones and the address table, by the tests that were made. Assumes nothing.
 use Rattle.marking.specs.declared.addresses.Verdict.{Verdict}
 use Rattle.marking.specs.Roots.{on_lookup}
 use mathlib.Core.Path.{◌≡◌, refl}
@@ -10,9 +10,14 @@ use lib.ListN.{length, get_or}
 use lib.Dec.{eqb}
 use borrow.Author.Tests.{lt-ltb, le-ltb, eq-eqb, ne_eqb}
 use Rattle.readers.specs.Choice.{pick}
-use Rattle.marking.specs.Addresses.{byte_liveness, lookup_at}
+use Rattle.marking.specs.Addresses.{is_tombstone, byte_liveness, lookup_at}
 use Rattle.std.specs.Prelude.{Ok, Err, Result}
 use Rattle.marking.specs.declared.addresses.Verdict.TheVariants.{Dead, Live}
+
+-- no address of another size is a tombstone
+pub other-size : (address size : ℕ) → (size ≡ 4 → ⊥) → (size ≡ 8 → ⊥) → false ≡ is_tombstone address size
+unfolding is_tombstone pick
+other-size address size n m = rw (ne_eqb size 4 n, ne_eqb size 8 m)
 
 module _ (table : List ℕ) (index : ℕ) where
   pub no_table : length table ≡ 0 → Ok Live ≡ lookup_at table index

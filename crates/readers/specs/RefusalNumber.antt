@@ -1,7 +1,9 @@
 -- The number of each refusal, as callers see it (document 01, the table of refusals).
 use Rattle.std.specs.Prelude.{ℕ, Bool, true, false, eqb, ◌≡◌, refl}
 use Rattle.readers.specs.declared.refusal.Cause.{Cause}
-use Rattle.readers.specs.declared.refusal.Cause.TheVariants.{ShortHeader, OutsideDomain, Abbreviations, Entry, ListOrExpression, AddressFlag, AbsoluteReference, TargetNotKept, TooWide, EntryTableFull, ReferenceTableFull, IndexListShort, MapShort, OutputShort, PaddedWidth, Graph, AddressTableShort, Treatment, TagOrder}
+use Rattle.readers.specs.declared.refusal.Cause.TheVariants.{ShortHeader, OutsideDomain, Abbreviations, Entry, ListOrExpression, AddressFlag, AbsoluteReference}
+use Rattle.readers.specs.declared.refusal.Cause.TheVariants.{TargetNotKept, TooWide, EntryTableFull, ReferenceTableFull, IndexListShort, MapShort, OutputShort}
+use Rattle.readers.specs.declared.refusal.Cause.TheVariants.{PaddedWidth, Graph, AddressTableShort, Treatment, TagOrder}
 
 abbrev pub number_of : Cause → ℕ
 number_of ShortHeader = 1

@@ -228,6 +228,13 @@ grouping-more value last out₀ rest i out h p =
 grouping-end : (value last : ℕ) (out₀ : List ℕ) (rest i : ℕ) (out : List ℕ) → last ≤ i → Grouping value last out₀ rest i out → last - i ≡ 0
 grouping-end value last out₀ rest i out h p = let f : i ≤ last = p.few in omega arith
 
+pub grouping-low : (value last : ℕ) (out₀ : List ℕ) (rest i : ℕ) (out : List ℕ) → last ≤ i → Grouping value last out₀ rest i out → rest < 128
+grouping-low value last out₀ rest i out h p =
+    let l : rest < 128 ^ suc 0 = subst (λ n. rest < 128 ^ suc n) (grouping-end value last out₀ rest i out h p) p.low in omega arith
+
+pub grouping-room : (value last : ℕ) (out₀ : List ℕ) (rest i : ℕ) (out : List ℕ) → Grouping value last out₀ rest i out → i < length out
+grouping-room value last out₀ rest i out p = let f : i ≤ last = p.few in omega (arith, p.room, p.putting.same)
+
 pub grouping-done : (value width : ℕ) (out₀ : List ℕ) (rest i : ℕ) (out : List ℕ) → groups_fit value width (length out₀) ≡ true
     → width - 1 ≤ i → Grouping value (width - 1) out₀ rest i out → set out (width - 1) rest ≡ padded (width - 1) value ++ drop width out₀
 unfolding padded
