@@ -12,13 +12,10 @@ use Rattle.marking.specs.EntryReferences.{ReferencesFound, found, refused as ref
 use Rattle.marking.specs.declared.analysis.Analysis.{Analysis}
 use Rattle.marking.specs.declared.analysis.EntryAnalysis.{EntryAnalysis}
 use Rattle.marking.specs.declared.addresses.Verdict.{Verdict}
-use Rattle.marking.specs.Columns.{entries_counted}
 use Rattle.marking.specs.declared.addresses.Verdict.TheVariants.{Live, Dead}
 use Rattle.marking.specs.ReferenceTable.{placed, table_after}
 use Rattle.marking.specs.KeepList.{KeepList, keep_refusal}
 use Rattle.marking.specs.Analysis.{EntryRow, Analysed, analysed, refused}
-use Rattle.marking.specs.declared.analysis.UnitFound.{UnitFound}
-use Rattle.marking.specs.declared.analysis.UnitFound.TheVariants.{Unit as Found', Answered}
 use Rattle.marking.specs.Columns.{ends_in, names_in, offsets_in, pad_to, parents_in, roots_in}
 
 -- what a column holds after the entries were read into it; after a refusal only its length is said
@@ -59,13 +56,13 @@ left_by (Ok a) col = col
 left_by (Err n) col = zeros (length col)
 
 -- what is to be analysed, by the header and the check of the declarations
-unfoldable pub unit_checked : UnitHeader → Result (Unit {0}) ℕ → UnitFound
-unit_checked h (Ok u) = Found' h
-unit_checked h (Err n) = Answered (Err n)
+unfoldable pub unit_checked : UnitHeader → Result (Unit {0}) ℕ → Result (Option UnitHeader) ℕ
+unit_checked h (Ok u) = Ok (Some h)
+unit_checked h (Err n) = Err n
 
-unfoldable pub unit_found : List ℕ → Result (Option UnitHeader) ℕ → UnitFound
-unit_found abbreviations (Ok None) = Answered (entries_counted 0 0)
-unit_found abbreviations (Err n) = Answered (Err n)
+unfoldable pub unit_found : List ℕ → Result (Option UnitHeader) ℕ → Result (Option UnitHeader) ℕ
+unit_found abbreviations (Ok None) = Ok None
+unit_found abbreviations (Err n) = Err n
 unit_found abbreviations (Ok (Some h)) = unit_checked h (checked_of abbreviations h.abbreviations)
 
 -- an entry by its head alone: where it ends is not asked by its root test, nor by its references
