@@ -2,7 +2,7 @@
 use mathlib.Core.Path.{◌≡◌, refl, ap, ap₂, sym, ◌∙◌, subst}
 use Prim.Native.Nat.{ℕ, suc, ◌+◌, ◌*◌, ◌-◌, ◌^◌, ◌≤◌, ◌<◌}
 use mathlib.Core.Bool.{Bool, true, false}
-use Rattle.std.specs.Prelude.{None, Option, Some, Err, Result}
+use Rattle.std.specs.Prelude.{None, Option, Some, Err, Ok, Result}
 use Rattle.readers.specs.declared.abbreviations.Declaration.{Declaration}
 use Rattle.readers.specs.declared.entries.Step.{Step}
 use mathlib.Core.List.{List, [], ◌∷◌, ◌++◌, append-nil, append_assoc}
@@ -18,7 +18,6 @@ use Rattle.readers.specs.Entries.{step_at}
 use Rattle.readers.specs.Inner.Entries.{entry_of, entry_to}
 use Rattle.readers.specs.Lists.{list_base}
 use Rattle.readers.specs.Nesting.{no_parent, opened, closed, top, nesting_of, nesting_opened, nesting_closed}
-use Rattle.readers.specs.declared.abbreviations.Checked.TheVariants.{Accepted}
 use Rattle.readers.specs.declared.cursor.Cursor.{Cursor}
 use Rattle.readers.specs.declared.cursor.Encoding.{Encoding}
 use Rattle.readers.specs.declared.entries.Entry.{Entry}
@@ -496,7 +495,7 @@ module _ (e : Encoding) (x : Sections) (unit : List ℕ) (room : Rooms) (from fi
       → (code : ℕ) → declared_in ds code ≡ find_at x.abbreviations from index code
   look-same ds q i code = sym (ap (λ (l : List ℕ). find_at x.abbreviations from l code) i ∙ find-plain x.abbreviations from (length index) ds q code)
 
-  declared-start : (o : Option (List Placed)) → abbreviations_of x.abbreviations from ≡ o → as_checked o ≡ Accepted → index ≡ index_of x.abbreviations from (length index)
+  declared-start : (o : Option (List Placed)) → abbreviations_of x.abbreviations from ≡ o → as_checked o ≡ Ok tt → index ≡ index_of x.abbreviations from (length index)
       → unit_analysed e x unit room from first ≡ from_here e x unit room (find_at x.abbreviations from index) (start_of e) first first (start_of e)
   unfolding as_checked unit_analysed on_declared
   declared-start None q a i = let z : ◌≡◌ {A = ℕ} 0 1 = cc in absurd (omega arith)

@@ -10,8 +10,6 @@ use mir.Facts.{leb_yes, leb_no}
 use Rattle.readers.specs.Choice.{zeros}
 use Rattle.readers.proofs.Choice.{pick-either}
 use Rattle.readers.specs.Abbreviations.{Placed, abbreviations_of, as_checked, checked_of, index_for, index_of}
-use Rattle.readers.specs.declared.abbreviations.Checked.{Checked}
-use Rattle.readers.specs.declared.abbreviations.Checked.TheVariants.{Accepted, Refused as Undeclared}
 use Rattle.readers.specs.declared.header.UnitHeader.{UnitHeader}
 use Rattle.readers.proofs.Declarations.{length-indexed}
 use Rattle.marking.specs.Analysis.{Sections, Rooms, rooms, EntryRow, Analysed, analysed, refused, on_declared, unit_analysed, after_list, header_by, header_analysed, analysis_of}
@@ -20,8 +18,6 @@ use Rattle.marking.specs.Columns.{offsets_in, parents_in, roots_in, names_in, en
 use Rattle.marking.specs.Inner.Columns.{Left, Outcome, AnalysisInput, left_by, unit_checked, unit_found}
 use Rattle.marking.specs.declared.analysis.Analysis.{Analysis}
 use Rattle.marking.specs.Columns.{entries_counted}
-use Rattle.marking.specs.declared.analysis.UnitFound.{UnitFound}
-use Rattle.marking.specs.declared.analysis.UnitFound.TheVariants.{Unit as Found', Answered as Answered'}
 use Rattle.marking.proofs.ListedHeaders.{after-listed}
 
 -- ---- columns that are left, and columns that are cleared
@@ -141,16 +137,16 @@ Clear nf np nr ne nt offsets parents roots ends targets = (offsets ≡ zeros nf)
 
 module _ (abbreviations : List ℕ) (r : Result (Option UnitHeader) ℕ) where
   pub found_none : r ≡ Ok None → (k : ℕ) (index : List ℕ) → index ≡ zeros k
-      → (Answered' (entries_counted 0 0) ≡ unit_found abbreviations r) × (index ≡ index_after abbreviations r k)
+      → (Ok None ≡ unit_found abbreviations r) × (index ≡ index_after abbreviations r k)
   unfolding unit_found index_after
   found_none e k index i = (sym (ap (unit_found abbreviations) e), i ∙ sym (ap (λ (q : Result (Option UnitHeader) ℕ). index_after abbreviations q k) e))
 
   pub found-refused : (n : ℕ) → r ≡ Err n → (k : ℕ) (index : List ℕ) → index ≡ zeros k
-      → (Answered' (Err n) ≡ unit_found abbreviations r) × (index ≡ index_after abbreviations r k)
+      → (Err n ≡ unit_found abbreviations r) × (index ≡ index_after abbreviations r k)
   unfolding unit_found index_after
   found-refused n e k index i = (sym (ap (unit_found abbreviations) e), i ∙ sym (ap (λ (q : Result (Option UnitHeader) ℕ). index_after abbreviations q k) e))
 
-  pub found-checked : (h : UnitHeader) → r ≡ Ok (Some h) → (c : Checked) → checked_of abbreviations h.abbreviations ≡ c
+  pub found-checked : (h : UnitHeader) → r ≡ Ok (Some h) → (c : Result (Unit {0}) ℕ) → checked_of abbreviations h.abbreviations ≡ c
       → (k' k : ℕ) → k' ≡ k → (index : List ℕ) → index ≡ index_of abbreviations h.abbreviations k'
       → (unit_checked h c ≡ unit_found abbreviations r) × (index ≡ index_after abbreviations r k)
   unfolding unit_found index_after
@@ -160,25 +156,36 @@ module _ (abbreviations : List ℕ) (r : Result (Option UnitHeader) ℕ) where
   )
 
 -- found by a header that is the section's
-pub found-by : (abbreviations : List ℕ) (o r : Result (Option UnitHeader) ℕ) (f : UnitFound) (index : List ℕ) (k : ℕ) → o ≡ r
+pub found-by : (abbreviations : List ℕ) (o r : Result (Option UnitHeader) ℕ) (f : Result (Option UnitHeader) ℕ) (index : List ℕ) (k : ℕ) → o ≡ r
     → (f ≡ unit_found abbreviations r) × (index ≡ index_after abbreviations r k)
     → (f ≡ unit_found abbreviations o) × (index ≡ index_after abbreviations o k)
 found-by abbreviations o r f index k e q =
     (q.0 ∙ sym (ap (unit_found abbreviations) e), q.1 ∙ sym (ap (λ (h : Result (Option UnitHeader) ℕ). index_after abbreviations h k) e))
 
-unit-checked : (h h' : UnitHeader) (c : Checked) → Found' h ≡ unit_checked h' c → (h' ≡ h) × (c ≡ Accepted)
+unit-checked : (h h' : UnitHeader) (c : Result (Unit {0}) ℕ) → Ok (Some h) ≡ unit_checked h' c → (h' ≡ h) × (c ≡ Ok tt)
 unfolding unit_checked
-unit-checked h h' Accepted q = let e : h' ≡ h = cc in (e, refl)
-unit-checked h h' Undeclared q = let z : ◌≡◌ {A = ℕ} 0 1 = cc in absurd (omega arith)
+unit-checked h h' (Ok u) q = let e : h' ≡ h = cc in (e, refl)
+unit-checked h h' (Err n) q = let z : ◌≡◌ {A = ℕ} 0 1 = cc in absurd (omega arith)
 
-unit-found : (abbreviations : List ℕ) (r : Result (Option UnitHeader) ℕ) (h : UnitHeader) → Found' h ≡ unit_found abbreviations r
-    → (r ≡ Ok (Some h)) × (checked_of abbreviations h.abbreviations ≡ Accepted)
+unit-found : (abbreviations : List ℕ) (r : Result (Option UnitHeader) ℕ) (h : UnitHeader) → Ok (Some h) ≡ unit_found abbreviations r
+    → (r ≡ Ok (Some h)) × (checked_of abbreviations h.abbreviations ≡ Ok tt)
 unfolding unit_found
 unit-found abbreviations (Ok None) h q = let z : ◌≡◌ {A = ℕ} 0 1 = cc in absurd (omega arith)
 unit-found abbreviations (Err n) h q = let z : ◌≡◌ {A = ℕ} 0 1 = cc in absurd (omega arith)
 unit-found abbreviations (Ok (Some h')) h q =
-    let u : (h' ≡ h) × (checked_of abbreviations h'.abbreviations ≡ Accepted) = unit-checked h h' _ q in
+    let u : (h' ≡ h) × (checked_of abbreviations h'.abbreviations ≡ Ok tt) = unit-checked h h' _ q in
     (ap (λ g. Ok (Some g)) u.0, ap (λ (g : UnitHeader). checked_of abbreviations g.abbreviations) (sym u.0) ∙ u.1)
+
+checked-some : (h : UnitHeader) (c : Result (Unit {0}) ℕ) → Ok None ≡ unit_checked h c → ⊥
+unfolding unit_checked
+checked-some h (Ok u) q = let z : ◌≡◌ {A = ℕ} 0 1 = cc in omega arith
+checked-some h (Err n) q = let z : ◌≡◌ {A = ℕ} 0 1 = cc in omega arith
+
+found-nothing : (abbreviations : List ℕ) (r : Result (Option UnitHeader) ℕ) → Ok None ≡ unit_found abbreviations r → r ≡ Ok None
+unfolding unit_found
+found-nothing abbreviations (Ok None) q = refl
+found-nothing abbreviations (Err n) q = let z : ◌≡◌ {A = ℕ} 0 1 = cc in absurd (omega arith)
+found-nothing abbreviations (Ok (Some h)) q = absurd (checked-some h _ q)
 
 index-found : (abbreviations : List ℕ) (r : Result (Option UnitHeader) ℕ) (h : UnitHeader) (k : ℕ) (index : List ℕ) → r ≡ Ok (Some h)
     → index ≡ index_after abbreviations r k → index ≡ index_of abbreviations h.abbreviations k
@@ -187,12 +194,12 @@ index-found abbreviations r h k index e i = i ∙ ap (λ (q : Result (Option Uni
 
 pub unit-ready : (keep : KeepList) (own : Result (Option UnitHeader) ℕ) (abbreviations index section : List ℕ) (h : UnitHeader) (k : ℕ) {entries references n m : ℕ}
     (nf np nr ne nt : ℕ) (offsets parents roots ends targets : List ℕ)
-    → Found' h ≡ unit_found abbreviations (after_list (keep_refusal keep) own) → index ≡ index_after abbreviations (after_list (keep_refusal keep) own) k
+    → Ok (Some h) ≡ unit_found abbreviations (after_list (keep_refusal keep) own) → index ≡ index_after abbreviations (after_list (keep_refusal keep) own) k
     → Room entries references (length offsets) (length parents) (length roots) (length ends) (length targets) n m
     → Clear nf np nr ne nt offsets parents roots ends targets
     → AnalysisInput abbreviations index h.abbreviations (take h.end section) n m offsets parents roots ends targets keep
 unit-ready keep own abbreviations index section h k {entries} {references} {n} {m} nf np nr ne nt offsets parents roots ends targets q i r c =
-    let u : (after_list (keep_refusal keep) own ≡ Ok (Some h)) × (checked_of abbreviations h.abbreviations ≡ Accepted) = unit-found abbreviations (after_list (keep_refusal keep) own) h q in
+    let u : (after_list (keep_refusal keep) own ≡ Ok (Some h)) × (checked_of abbreviations h.abbreviations ≡ Ok tt) = unit-found abbreviations (after_list (keep_refusal keep) own) h q in
     let j : index ≡ index_of abbreviations h.abbreviations k = index-found abbreviations (after_list (keep_refusal keep) own) h k index u.0 i in
     let e₁ : n ≡ least entries (least (least (length offsets) (length parents)) (least (length roots) (length ends))) = r.rows in
     let e₂ : m ≡ least references (length targets) = r.names in
@@ -276,28 +283,30 @@ module _ (x : Sections) (section : List ℕ) (room : Rooms) (k nf np nr ne nt : 
         ),
       )
 
-      undeclared : (h : UnitHeader) (a : Result Analysis ℕ) (o : Option (List Placed)) → Answered' a ≡ unit_checked h (as_checked o)
-          → (f : List Placed → Analysed) → (a ≡ Err 3) × (on_declared o f ≡ refused 3)
+      pub section-none : Ok None ≡ unit_found x.abbreviations (header_by x section) → Answered (entries_counted 0 0)
+      unfolding header_analysed
+      section-none q = section-empty (analysis-by (Ok None) (found-nothing x.abbreviations (header_by x section) q))
+
+      undeclared : (h : UnitHeader) (n : ℕ) (o : Option (List Placed)) → Err n ≡ unit_checked h (as_checked o)
+          → (f : List Placed → Analysed) → (n ≡ 3) × (on_declared o f ≡ refused 3)
       unfolding as_checked on_declared unit_checked
-      undeclared h a None q f = let e : a ≡ Err 3 = cc in (e, refl)
-      undeclared h a (Some ds) q f = let z : ◌≡◌ {A = ℕ} 0 1 = cc in absurd (omega arith)
+      undeclared h n None q f = let e : n ≡ 3 = cc in (e, refl)
+      undeclared h n (Some ds) q f = let z : ◌≡◌ {A = ℕ} 0 1 = cc in absurd (omega arith)
 
-      pub section-answered : (a : Result Analysis ℕ) → Answered' a ≡ unit_found x.abbreviations (header_by x section) → Answered a
+      pub section-refusing : (n : ℕ) → Err n ≡ unit_found x.abbreviations (header_by x section) → Answered (Err n)
       unfolding header_analysed unit_analysed checked_of unit_found
-      section-answered a q = of (header_by x section) refl q
+      section-refusing n q = of (header_by x section) refl q
         where
-          of : (r : Result (Option UnitHeader) ℕ) → header_by x section ≡ r → Answered' a ≡ unit_found x.abbreviations r → Answered a
-          of (Ok None) e q' =
-              let s : a ≡ entries_counted 0 0 = cc in
-              subst Answered (sym s) (section-empty (analysis-by (Ok None) e))
-          of (Err n) e q' =
-              let s : a ≡ Err n = cc in
-              subst Answered (sym s) (section-refused n (analysis-by (Err n) e))
+          of : (r : Result (Option UnitHeader) ℕ) → header_by x section ≡ r → Err n ≡ unit_found x.abbreviations r → Answered (Err n)
+          of (Ok None) e q' = let z : ◌≡◌ {A = ℕ} 0 1 = cc in absurd (omega arith)
+          of (Err m) e q' =
+              let s : n ≡ m = cc in
+              subst (λ k. Answered (Err k)) (sym s) (section-refused m (analysis-by (Err m) e))
           of (Ok (Some h)) e q' =
-              let u = undeclared h a (abbreviations_of x.abbreviations h.abbreviations) q' _ in
-              subst Answered (sym u.0) (section-refused 3 (analysis-by (Ok (Some h)) e ∙ u.1))
+              let u = undeclared h n (abbreviations_of x.abbreviations h.abbreviations) q' _ in
+              subst (λ k. Answered (Err k)) (sym u.0) (section-refused 3 (analysis-by (Ok (Some h)) e ∙ u.1))
 
-    pub section-unit : (h : UnitHeader) → Found' h ≡ unit_found x.abbreviations (header_by x section)
+    pub section-unit : (h : UnitHeader) → Ok (Some h) ≡ unit_found x.abbreviations (header_by x section)
         → (room' : Rooms) (nf' np' nr' ne' nt' : ℕ) (r : Result Analysis ℕ) → room' ≡ room → nf' ≡ nf → np' ≡ np → nr' ≡ nr → ne' ≡ ne → nt' ≡ nt
         → (r ≡ answer_of (unit_analysed h.encoding x (take h.end section) room' h.abbreviations h.first.0))
         × Filled' (unit_analysed h.encoding x (take h.end section) room' h.abbreviations h.first.0) nf' np' nr' ne' nt' offsets parents roots ends targets

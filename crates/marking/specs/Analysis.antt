@@ -10,7 +10,6 @@ use Rattle.readers.specs.Header.{header_of}
 use Rattle.readers.specs.Lists.{list_base}
 use Rattle.readers.specs.Abbreviations.{Placed, declared_in, abbreviations_of}
 use Rattle.readers.specs.Refusals.{refusal_of_checked, refusal_of_step}
-use Rattle.readers.specs.declared.abbreviations.Checked.TheVariants.{Refused as Unchecked}
 use Rattle.readers.specs.Nesting.{opened, closed, top}
 use Rattle.readers.specs.declared.cursor.Encoding.{Encoding}
 use Rattle.readers.specs.declared.entries.Entry.{Entry}
@@ -141,7 +140,7 @@ module _ (e : Encoding) (x : Sections) (unit : List ℕ) where
 -- ---- the first unit of a section
 
 unfoldable pub on_declared : Option (List Placed) → (List Placed → Analysed) → Analysed
-on_declared None k = refused (refusal_of_checked Unchecked)
+on_declared None k = refused (refusal_of_checked (Err 3))
 on_declared (Some ds) k = k ds
 
 -- a unit by what its header says: how it is read, where its declarations start and where its first entry does

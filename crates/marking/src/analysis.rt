@@ -17,7 +17,7 @@ use crate::keep_list::{judge, treat, treatment};
 use crate::references::{EntryScan, scan_live_die_attrs};
 use crate::root_test::{base_after, is_root};
 use crate::setting::Setting;
-use readers::abbreviations::{Checked, check_abbreviations};
+use readers::abbreviations::check_abbreviations;
 use readers::codes::{DW_AT_loclists_base, DW_AT_rnglists_base};
 use readers::cursor::{Cursor, Encoding};
 use readers::entries::{EntryHead, HeadStep, Nesting};
@@ -47,13 +47,6 @@ pub struct Analysis {
 pub struct UnitAnalysis {
     pub header: Result<Option<UnitHeader>, Refusal>,
     pub analysis: Result<Analysis, Refusal>,
-}
-
-// What is to be analysed: a unit whose declarations were checked, or the answer where there is none.
-#[derive(Clone, Copy)]
-pub enum UnitFound {
-    Unit(UnitHeader),
-    Answered(Result<Analysis, Refusal>),
 }
 
 // The number of a refusal of an entry: 4 where its values can't be read, which comes before any other.
@@ -441,33 +434,25 @@ fn analyse_unit<'a>(
 }
 
 // The unit of a header, its declarations checked and the index of them filled: a refusal of the header, or of the keep
-// list before it, then 3 of the abbreviations. An empty section has no entries.
+// list before it, then 3 of the abbreviations. An empty section has none.
 fn find_unit(
     header: &Result<Option<UnitHeader>, Refusal>,
     abbreviations: &[u8],
     index: &mut [u64],
-) -> UnitFound
+) -> Result<Option<UnitHeader>, Refusal>
     ensures { (result ≡ unit_found abbreviations.now header.now)
         × (index.new ≡ index_after abbreviations.now header.now (length index.old)) }
 {
     clear(index);
     let first = match header {
         Ok(first) => first,
-        Err(n) => {
-            return UnitFound::Answered(Err(*n));
-        }
+        Err(n) => return Err(*n),
     };
     match first {
-        None => UnitFound::Answered(Ok(Analysis {
-            entries: 0,
-            references: 0,
-        })),
+        None => Ok(None),
         Some(h) => {
-            let Checked::Accepted = check_abbreviations(abbreviations, h.abbreviations, index)
-            else {
-                return UnitFound::Answered(Err(Refusal(Cause::Abbreviations)));
-            };
-            UnitFound::Unit(*h)
+            check_abbreviations(abbreviations, h.abbreviations, index)?;
+            Ok(Some(*h))
         }
     }
 }
@@ -530,8 +515,18 @@ pub fn analyse<'a>(
     let header = listed_header(section, setting.big_endian, tags, treatments);
     clear_columns(offsets, parents, roots, reference_ends, targets);
     match find_unit(&header, abbreviations, index) {
-        UnitFound::Answered(analysis) => UnitAnalysis { header, analysis },
-        UnitFound::Unit(h) => {
+        Err(n) => UnitAnalysis {
+            header,
+            analysis: Err(n),
+        },
+        Ok(None) => UnitAnalysis {
+            header,
+            analysis: Ok(Analysis {
+                entries: 0,
+                references: 0,
+            }),
+        },
+        Ok(Some(h)) => {
             let room = entry_room(
                 entries,
                 offsets.len(),

@@ -1,7 +1,7 @@
 // What the readers read of a bundle's unit: header, entries with their attributes, references of expressions, lists.
 use crate::answers::refused;
 use bundle::Bundle;
-use readers::abbreviations::{AttributeSpec, Checked, SpecStep};
+use readers::abbreviations::{AttributeSpec, SpecStep};
 use readers::attributes::Attribute;
 use readers::codes::{
     DW_AT_loclists_base, DW_AT_rnglists_base, DW_FORM_exprloc, DW_FORM_flag_present,
@@ -413,7 +413,7 @@ pub fn dump(to: &mut impl Write, s: &[u8], big_endian: bool) -> io::Result<()> {
     let abbreviations = bundle::section_bytes(s, b.abbreviations);
     let mut index = [0; 1024];
     match readers::abbreviations::check_abbreviations(abbreviations, h.abbreviations, &mut index) {
-        Checked::Accepted => {
+        Ok(()) => {
             header_line(to, h)?;
             let u = Unit {
                 bytes: readers::header::unit_part(section, h),
@@ -429,6 +429,6 @@ pub fn dump(to: &mut impl Write, s: &[u8], big_endian: bool) -> io::Result<()> {
             };
             entries(to, u)
         }
-        Checked::Refused => refused(to, Refusal(Cause::Abbreviations)),
+        Err(refusal) => refused(to, refusal),
     }
 }

@@ -3,7 +3,7 @@ use Prim.Native.Nat.{ℕ, zero, suc, ◌+◌, ◌-◌, ◌≤◌, ◌<◌}
 use mathlib.Core.Path.{◌≡◌, refl, ap, ap₂, sym, ◌∙◌, subst}
 use mathlib.Core.Logic.{◌⊎◌, inl, inr, ⊎_elim}
 use mathlib.Core.Bool.{Bool, true, false, not}
-use Rattle.std.specs.Prelude.{is_some, None, Option, Some}
+use Rattle.std.specs.Prelude.{is_some, None, Option, Some, Result, Ok, Err}
 use Rattle.readers.specs.declared.abbreviations.DeclarationStep.{DeclarationStep}
 use mathlib.Core.List.{List, [], ◌∷◌, ◌++◌, append-nil}
 use native.Mathlib.Omega.{arith}
@@ -26,10 +26,8 @@ use Rattle.readers.specs.declared.cursor.Cursor.{Cursor}
 use Rattle.readers.specs.declared.abbreviations.AttributeSpec.{AttributeSpec}
 use Rattle.readers.specs.declared.abbreviations.Declaration.{Declaration}
 use Rattle.readers.specs.declared.abbreviations.DeclarationStep.TheVariants.{Declaration as Declared, Last}
-use Rattle.readers.specs.declared.abbreviations.Checked.{Checked}
 use Rattle.readers.specs.declared.slots.Arranged.{Arranged}
 use Rattle.readers.specs.declared.slots.Arranged.TheVariants.{Ascending, Repeated}
-use Rattle.readers.specs.declared.abbreviations.Checked.TheVariants.{Accepted, Refused}
 use Rattle.readers.proofs.Lebs.{uleb-inside, short-inside}
 use Rattle.readers.proofs.Widths.{fixed-inside}
 use Rattle.readers.proofs.Specs.{Past, past-read}
@@ -656,12 +654,12 @@ module _ (s : List ℕ) (from : ℕ) (l m : List ℕ) (at count : ℕ) (q : Gath
 
 -- ---- the check
 
-refused : (s : List ℕ) (from : ℕ) → abbreviations_of s from ≡ None → Refused ≡ checked_of s from
+refused : (s : List ℕ) (from : ℕ) → abbreviations_of s from ≡ None → Err 3 ≡ checked_of s from
 unfolding checked_of as_checked
 refused s from e = sym (ap as_checked e)
 
-pub refused-not : Refused ≡ Accepted → ⊥
-refused-not e = let z : ◌≡◌ {A = ℕ} 0 1 = cc in omega arith
+pub refused-not : (n : ℕ) → ◌≡◌ {A = Result (Unit {0}) ℕ} (Err n) (Ok tt) → ⊥
+refused-not n e = let z : ◌≡◌ {A = ℕ} 0 1 = cc in omega arith
 
 -- the place after some declarations that have no code twice
 pub record Checking (s : List ℕ) (from at : ℕ) : Type 0 where
@@ -684,14 +682,14 @@ not-found None h = refl
 not-found (Some d) h = let z : ◌≡◌ {A = ℕ} 0 1 = cc in absurd (omega arith)
 
 module _ (s : List ℕ) (from at : ℕ) (q : Checking s from at) where
-  pub checking-last : (c : Cursor) → declaration_at s at ≡ Some (Last c) → Accepted ≡ checked_of s from
+  pub checking-last : (c : Cursor) → declaration_at s at ≡ Some (Last c) → Ok tt ≡ checked_of s from
   unfolding abbreviations_of checked_of as_checked check_distinct onto
   checking-last c e =
       let d : declarations_from s from ≡ Some (q.done ++ [], c.at) = chain-onto q.chain ∙ ap (onto q.done) (declarations-last s at c e) in
       let d' : declarations_from s from ≡ Some (q.done, c.at) = d ∙ ap (λ (l : List Placed). Some (l, c.at)) (append-nil q.done) in
       sym (ap as_checked (bind-at check_distinct d' ∙ check-yes _ _ q.once))
 
-  pub checking-bad : declaration_at s at ≡ None → Refused ≡ checked_of s from
+  pub checking-bad : declaration_at s at ≡ None → Err 3 ≡ checked_of s from
   unfolding abbreviations_of onto
   checking-bad e = refused s from (bind-none check_distinct (chain-onto q.chain ∙ ap (onto q.done) (declarations-bad s at e)))
 
@@ -701,7 +699,7 @@ module _ (s : List ℕ) (from at : ℕ) (q : Checking s from at) where
   twice_of p (Some r) h = check-no _ _ (distinct-twice q.done r.0 p h)
 
   module _ (d : Declaration) (c : Cursor) (e : declaration_at s at ≡ Some (Declared d c)) where
-    pub checking-found : is_some (search_at s at d.code from) ≡ true → Refused ≡ checked_of s from
+    pub checking-found : is_some (search_at s at d.code from) ≡ true → Err 3 ≡ checked_of s from
     unfolding is_found abbreviations_of
     checking-found h =
         let t : T (is_found (declared_in q.done d.code)) = subst (λ f. T (is_found f)) (chain-searched d.code q.chain) (some-found _ h) in
@@ -719,11 +717,11 @@ module _ (s : List ℕ) (from at : ℕ) (q : Checking s from at) where
         }
 
 -- a list that is refused has an index of zeros
-pub refused-index : (s : List ℕ) (from n : ℕ) → checked_of s from ≡ Refused → zeros n ≡ index_of s from n
+pub refused-index : (s : List ℕ) (from n k : ℕ) → checked_of s from ≡ Err k → zeros n ≡ index_of s from n
 unfolding checked_of index_of as_checked index_for
-refused-index s from n h = of (abbreviations_of s from) h
+refused-index s from n k h = of (abbreviations_of s from) h
   where
-    of : (o : Option (List Placed)) → as_checked o ≡ Refused → zeros n ≡ index_for n o
+    of : (o : Option (List Placed)) → as_checked o ≡ Err k → zeros n ≡ index_for n o
     of None e = refl
     of (Some ds) e = let z : ◌≡◌ {A = ℕ} 0 1 = cc in absurd (omega arith)
 
@@ -782,7 +780,7 @@ accept-of s from ds h = of (declarations_from s from) refl h
 -- ---- the index filled
 
 module _ (s : List ℕ) (from : ℕ) where
-  pub unreadable-refused : None ≡ count_of (declarations_from s from) → Refused ≡ checked_of s from
+  pub unreadable-refused : None ≡ count_of (declarations_from s from) → Err 3 ≡ checked_of s from
   unfolding abbreviations_of count_of
   unreadable-refused h = refused s from (bind-none check_distinct (of (declarations_from s from) h))
     where
@@ -858,7 +856,7 @@ module _ (s : List ℕ) (from : ℕ) where
 
     -- what the slots are in order, and the rest of the index
     ordered-index : (m : List ℕ) (n : ℕ) (a : Arranged) → Ordered s (slots_of ds) m a → length ds ≤ n
-        → (accepted a ≡ checked_of s from) × (accepted a ≡ Accepted → m ++ drop (length ds) (zeros n) ≡ index_of s from n)
+        → (accepted a ≡ checked_of s from) × (accepted a ≡ Ok tt → m ++ drop (length ds) (zeros n) ≡ index_of s from n)
     unfolding checked_of as_checked accepted index_of index_for indexed
     ordered-index m n Ascending o h =
         let a : abbreviations_of s from ≡ Some ds = ordered-accepted m o in (
@@ -866,15 +864,15 @@ module _ (s : List ℕ) (from : ℕ) where
           λ _. ap (λ (l : List ℕ). l ++ drop (length ds) (zeros n)) (ordered-slots m o)
               ∙ sym (ap (index_for n) a ∙ pick_yes _ _ _ (yes_leb {a = length ds} {b = length (zeros n)} (omega (arith, length-replicate {A = ℕ} n 0)))),
         )
-    ordered-index m n Repeated o h = (sym (ap as_checked (ordered-refused m o)), λ e. absurd (refused-not e))
+    ordered-index m n Repeated o h = (sym (ap as_checked (ordered-refused m o)), λ e. absurd (refused-not _ e))
 
 module _ (s : List ℕ) (from count : ℕ) (l₀ l : List ℕ) (same : length l ≡ length l₀) (h : Some count ≡ count_of (declarations_from s from)) where
   pub over-filled : (m : List ℕ) → length l < count → m ≡ zeros (length l) → m ≡ index_of s from (length l₀)
   over-filled m g e = e ∙ ap zeros same ∙ over-index s from count (length l₀) h (omega arith)
 
   -- the slots ordered in their part of the index
-  pub filled-index : (m : List ℕ) (r : Checked) (a : Arranged) → l₀ ≡ zeros (length l₀) → Gathered s from l₀ l → count ≤ length l
-      → Ordered s (take count l) m a → r ≡ accepted a → (r ≡ checked_of s from) × (r ≡ Accepted → m ++ drop count l ≡ index_of s from (length l₀))
+  pub filled-index : (m : List ℕ) (r : Result (Unit {0}) ℕ) (a : Arranged) → l₀ ≡ zeros (length l₀) → Gathered s from l₀ l → count ≤ length l
+      → Ordered s (take count l) m a → r ≡ accepted a → (r ≡ checked_of s from) × (r ≡ Ok tt → m ++ drop count l ≡ index_of s from (length l₀))
   filled-index m r a z w i o u =
       let n : ℕ = length l₀ in
       let q : (r : Scanned Placed ℕ) × (declarations_from s from ≡ Some r) × (count ≡ length r.0) = counted-list s from count (declarations_from s from) h in
@@ -884,7 +882,7 @@ module _ (s : List ℕ) (from count : ℕ) (l₀ l : List ℕ) (same : length l 
       let c : length (slots_of ds) ≡ count = slots_length ds ∙ k in
       let t : take count l ≡ slots_of ds = ap (take count) e ∙ take_at (slots_of ds) (drop (length ds) (zeros n)) count c in
       let d : drop count l ≡ drop (length ds) (zeros n) = ap (drop count) e ∙ drop_at (slots_of ds) (drop (length ds) (zeros n)) count c in
-      let x : (accepted a ≡ checked_of s from) × (accepted a ≡ Accepted → m ++ drop (length ds) (zeros n) ≡ index_of s from n) =
+      let x : (accepted a ≡ checked_of s from) × (accepted a ≡ Ok tt → m ++ drop (length ds) (zeros n) ≡ index_of s from n) =
       ordered-index s from ds q.0.1 q.1 m n a (subst (λ (y : List ℕ). Ordered s y m a) t o) (omega arith) in
       (u ∙ x.0, λ b. ap (λ (y : List ℕ). m ++ y) d ∙ x.1 (sym u ∙ b))
 

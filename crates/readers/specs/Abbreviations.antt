@@ -1,6 +1,6 @@
 -- Abbreviation declarations (DWARF 5, 7.5.3; document 01, "Readers": tag, name and form nonzero, within 16 bits and
 -- at most three bytes each, children byte 0 or 1, no code twice, the list closed by code 0).
-use Rattle.std.specs.Prelude.{ℕ, ◌+◌, ◌-◌, Bool, true, false, not, List, [], ◌∷◌, ◌++◌, length, drop, get_or, ltb, leb, eqb, None, Option, Some}
+use Rattle.std.specs.Prelude.{ℕ, ◌+◌, ◌-◌, Bool, true, false, not, List, [], ◌∷◌, ◌++◌, length, drop, get_or, ltb, leb, eqb, None, Option, Some, Result, Ok, Err}
 use Rattle.readers.specs.declared.abbreviations.DeclarationStep.{DeclarationStep}
 use Rattle.readers.specs.declared.abbreviations.SpecStep.{SpecStep}
 use Rattle.readers.specs.Choice.{pick, check, bind, ◌and◌, zeros}
@@ -15,8 +15,6 @@ use Rattle.readers.specs.declared.abbreviations.AttributeSpec.{AttributeSpec}
 use Rattle.readers.specs.declared.abbreviations.SpecStep.TheVariants.{Attribute, Last as LastSpec}
 use Rattle.readers.specs.declared.abbreviations.Declaration.{Declaration}
 use Rattle.readers.specs.declared.abbreviations.DeclarationStep.TheVariants.{Declaration as Declared, Last}
-use Rattle.readers.specs.declared.abbreviations.Checked.{Checked}
-use Rattle.readers.specs.declared.abbreviations.Checked.TheVariants.{Accepted, Refused}
 
 -- ---- attribute specifications
 
@@ -127,11 +125,11 @@ check_distinct r = check (distinct r.0) (Some r.0)
 unfoldable pub abbreviations_of : List ℕ → ℕ → Option (List Placed)
 abbreviations_of s from = bind (declarations_from s from) check_distinct
 
-unfoldable pub as_checked : Option (List Placed) → Checked
-as_checked None = Refused
-as_checked (Some ds) = Accepted
+unfoldable pub as_checked : Option (List Placed) → Result (Unit {0}) ℕ
+as_checked None = Err 3
+as_checked (Some ds) = Ok tt
 
-unfoldable pub checked_of : List ℕ → ℕ → Checked
+unfoldable pub checked_of : List ℕ → ℕ → Result (Unit {0}) ℕ
 checked_of s from = as_checked (abbreviations_of s from)
 
 -- ---- the index: one more than the place of each declaration, in ascending order of their codes

@@ -1,7 +1,5 @@
 -- Document 01's numbers of refusal, for each case of what a reader answers; 0 where it refuses nothing.
-use Rattle.std.specs.Prelude.{ℕ, true, false, Bool, None, Option, Some}
-use Rattle.readers.specs.declared.abbreviations.Checked.{Checked}
-use Rattle.readers.specs.declared.abbreviations.Checked.TheVariants.{Accepted, Refused as Unchecked}
+use Rattle.std.specs.Prelude.{ℕ, true, false, Bool, None, Option, Some, Result, Ok, Err}
 use Rattle.readers.specs.declared.cursor.Cursor.{Cursor}
 use Rattle.readers.specs.declared.operations.ListStep.{ListStep}
 use Rattle.readers.specs.declared.operations.Operation.{Operation}
@@ -10,9 +8,9 @@ use Rattle.readers.specs.declared.entries.Step.TheVariants.{Entry as Entry', Ter
 use Rattle.readers.specs.declared.operations.ListStep.TheVariants.{Entry as ListEntry', End as ListEnd}
 
 -- 3: the abbreviations
-abbrev pub refusal_of_checked : Checked → ℕ
-refusal_of_checked Accepted = 0
-refusal_of_checked Unchecked = 3
+abbrev pub refusal_of_checked : Result (Unit {0}) ℕ → ℕ
+refusal_of_checked (Ok u) = 0
+refusal_of_checked (Err n) = n
 
 -- 4: an entry, its values too
 abbrev pub refusal_of_step : Option Step → ℕ

@@ -1,14 +1,14 @@
 // Abbreviation declarations (DWARF 5, 7.5.3).
-ghost use Rattle.std.specs.Prelude.{◌≡◌, true, ◌-◌, length, get_or};
+ghost use Rattle.std.specs.Prelude.{◌≡◌, true, ◌-◌, length, get_or, Ok};
 ghost use Rattle.readers.specs.Choice.{zeros};
 ghost use Rattle.readers.specs.Abbreviations.{spec_at, implicit_spec, past_attributes, head_at, declaration_at};
 ghost use Rattle.readers.specs.Abbreviations.{declarations_from, search_at, checked_of};
 ghost use Rattle.readers.specs.Inner.Abbreviations.{accepted, count_of, Gathered, PlainHead, PlainSpec};
 ghost use Rattle.readers.specs.Abbreviations.{index_of, holds_code, head_in, find_head};
-ghost use Rattle.readers.specs.declared.abbreviations.Checked.TheVariants.{Accepted};
 
 use crate::codes::{DW_CHILDREN_yes, DW_FORM_implicit_const};
 use crate::cursor::{Cursor, left};
+use crate::refusal::{Cause, Refusal};
 use crate::slots::{Arranged, order, slot_code, slot_of};
 use crate::tables::clear;
 
@@ -42,13 +42,6 @@ pub struct Declaration {
 pub enum DeclarationStep {
     Declaration(Declaration, Cursor),
     Last(Cursor),
-}
-
-// Whether a list of declarations is as document 01 wants it.
-#[derive(Clone, Copy)]
-pub enum Checked {
-    Accepted,
-    Refused,
 }
 
 // A specification with its value where it is an implicit_const.
@@ -259,48 +252,43 @@ fn gather(s: &[u8], start: usize, index: &mut [u64]) -> Option<usize>
 
 // Whether the declarations can be read and no code is declared twice, by a search for each: as many steps as the
 // square of their number. Only for an index that is too short for them.
-fn check_plain(s: &[u8], start: usize) -> Checked
+fn check_plain(s: &[u8], start: usize) -> Result<(), Refusal>
     ensures { result ≡ checked_of s.now start }
 {
     let mut c = Cursor { at: start };
     loop {
-        let Some(step) = c.declaration(s) else {
-            return Checked::Refused;
-        };
-        match step {
+        match c.declaration(s).ok_or(Refusal(Cause::Abbreviations))? {
             DeclarationStep::Declaration(d, next) => {
                 let earlier = (Cursor { at: start }).search(s, c.at, d.code);
                 if earlier.is_some() {
-                    return Checked::Refused;
+                    return Err(Refusal(Cause::Abbreviations));
                 }
                 c = next;
             }
             DeclarationStep::Last(_) => {
-                return Checked::Accepted;
+                return Ok(());
             }
         }
     }
 }
 
 // Declarations are accepted where their codes can be brought in ascending order.
-fn accept(a: Arranged) -> Checked
+fn accept(a: Arranged) -> Result<(), Refusal>
     ensures { result ≡ accepted a }
 {
     match a {
-        Arranged::Ascending => Checked::Accepted,
-        Arranged::Repeated => Checked::Refused,
+        Arranged::Ascending => Ok(()),
+        Arranged::Repeated => Err(Refusal(Cause::Abbreviations)),
     }
 }
 
 // Fills an index that holds zeros, as far as the declarations are accepted.
-fn fill_index(s: &[u8], start: usize, index: &mut [u64]) -> Checked
+fn fill_index(s: &[u8], start: usize, index: &mut [u64]) -> Result<(), Refusal>
     requires { index.old ≡ zeros (length index.old) }
     ensures answer { result ≡ checked_of s.now start }
-    ensures filled { result ≡ Accepted → index.new ≡ index_of s.now start (length index.old) }
+    ensures filled { result ≡ Ok tt → index.new ≡ index_of s.now start (length index.old) }
 {
-    let Some(count) = gather(s, start, index) else {
-        return Checked::Refused;
-    };
+    let count = gather(s, start, index).ok_or(Refusal(Cause::Abbreviations))?;
     if count > index.len() {
         clear(index);
         return check_plain(s, start);
@@ -311,16 +299,16 @@ fn fill_index(s: &[u8], start: usize, index: &mut [u64]) -> Checked
 // Checks the whole list of declarations that starts at an offset, and fills an index of them: one more than the place
 // of each, in ascending order of their codes, then zeros. An index with fewer numbers than there are declarations
 // holds zeros alone, and so does one of a list that is refused.
-pub fn check_abbreviations(s: &[u8], from: u64, index: &mut [u64]) -> Checked
+pub fn check_abbreviations(s: &[u8], from: u64, index: &mut [u64]) -> Result<(), Refusal>
     ensures answer { result ≡ checked_of s.now from }
     ensures filled { index.new ≡ index_of s.now from (length index.old) }
 {
     clear(index);
     match fill_index(s, from as usize, index) {
-        Checked::Accepted => Checked::Accepted,
-        Checked::Refused => {
+        Ok(()) => Ok(()),
+        Err(refusal) => {
             clear(index);
-            Checked::Refused
+            Err(refusal)
         }
     }
 }

@@ -3,9 +3,7 @@ use Rattle.std.specs.Prelude.{◌≡◌, ℕ, ◌≤◌, List, length, Err, None
 use Rattle.readers.specs.Choice.{zeros}
 use Rattle.readers.specs.Abbreviations.{checked_of, index_of}
 use Rattle.readers.specs.Inner.Entries.{entry_of}
-use Rattle.readers.specs.Refusals.{refusal_of_checked, refusal_of_step}
-use Rattle.readers.specs.declared.abbreviations.Checked.{Checked}
-use Rattle.readers.specs.declared.abbreviations.Checked.TheVariants.{Accepted, Refused as Undeclared}
+use Rattle.readers.specs.Refusals.{refusal_of_step}
 use Rattle.readers.specs.declared.cursor.Cursor.{Cursor}
 use Rattle.readers.specs.declared.entries.Entry.{Entry}
 use Rattle.readers.specs.declared.entries.EntryHead.{EntryHead}
@@ -14,13 +12,10 @@ use Rattle.marking.specs.EntryReferences.{ReferencesFound, found, refused as ref
 use Rattle.marking.specs.declared.analysis.Analysis.{Analysis}
 use Rattle.marking.specs.declared.analysis.EntryAnalysis.{EntryAnalysis}
 use Rattle.marking.specs.declared.addresses.Verdict.{Verdict}
-use Rattle.marking.specs.Columns.{entries_counted}
 use Rattle.marking.specs.declared.addresses.Verdict.TheVariants.{Live, Dead}
 use Rattle.marking.specs.ReferenceTable.{placed, table_after}
 use Rattle.marking.specs.KeepList.{KeepList, keep_refusal}
 use Rattle.marking.specs.Analysis.{EntryRow, Analysed, analysed, refused}
-use Rattle.marking.specs.declared.analysis.UnitFound.{UnitFound}
-use Rattle.marking.specs.declared.analysis.UnitFound.TheVariants.{Unit as Found', Answered}
 use Rattle.marking.specs.Columns.{ends_in, names_in, offsets_in, pad_to, parents_in, roots_in}
 
 -- what a column holds after the entries were read into it; after a refusal only its length is said
@@ -41,7 +36,7 @@ pub record Outcome (a : Analysed) (offsets₀ parents₀ roots₀ ends₀ target
 -- list that was taken
 pub record AnalysisInput (abbreviations index : List ℕ) (from : ℕ) (unit : List ℕ) (entry_room reference_room : ℕ)
     (offsets parents roots ends targets : List ℕ) (keep : KeepList) : Type 0 where
-  pub accepted : checked_of abbreviations from ≡ Accepted
+  pub accepted : checked_of abbreviations from ≡ Ok tt
   pub indexed : index ≡ index_of abbreviations from (length index)
   pub offsets_room : entry_room ≤ length offsets
   pub parents_room : entry_room ≤ length parents
@@ -61,13 +56,13 @@ left_by (Ok a) col = col
 left_by (Err n) col = zeros (length col)
 
 -- what is to be analysed, by the header and the check of the declarations
-unfoldable pub unit_checked : UnitHeader → Checked → UnitFound
-unit_checked h Accepted = Found' h
-unit_checked h Undeclared = Answered (Err (refusal_of_checked Undeclared))
+unfoldable pub unit_checked : UnitHeader → Result (Unit {0}) ℕ → Result (Option UnitHeader) ℕ
+unit_checked h (Ok u) = Ok (Some h)
+unit_checked h (Err n) = Err n
 
-unfoldable pub unit_found : List ℕ → Result (Option UnitHeader) ℕ → UnitFound
-unit_found abbreviations (Ok None) = Answered (entries_counted 0 0)
-unit_found abbreviations (Err n) = Answered (Err n)
+unfoldable pub unit_found : List ℕ → Result (Option UnitHeader) ℕ → Result (Option UnitHeader) ℕ
+unit_found abbreviations (Ok None) = Ok None
+unit_found abbreviations (Err n) = Err n
 unit_found abbreviations (Ok (Some h)) = unit_checked h (checked_of abbreviations h.abbreviations)
 
 -- an entry by its head alone: where it ends is not asked by its root test, nor by its references

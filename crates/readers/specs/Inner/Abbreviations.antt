@@ -1,17 +1,15 @@
 -- How many declarations there are, and their slots as they are gathered.
-use Rattle.std.specs.Prelude.{ℕ, ◌≤◌, ◌<◌, ◌≡◌, List, ◌++◌, length, drop, None, Option, Some}
+use Rattle.std.specs.Prelude.{ℕ, ◌≤◌, ◌<◌, ◌≡◌, List, ◌++◌, length, drop, None, Option, Some, Result, Ok, Err}
 use Rattle.readers.specs.Codes.{DW_CHILDREN_yes, DW_FORM_implicit_const}
 use Rattle.readers.specs.Scan.{Scanned}
-use Rattle.readers.specs.declared.abbreviations.Checked.{Checked}
-use Rattle.readers.specs.declared.abbreviations.Checked.TheVariants.{Accepted, Refused}
 use Rattle.readers.specs.declared.slots.Arranged.{Arranged}
 use Rattle.readers.specs.declared.slots.Arranged.TheVariants.{Ascending, Repeated}
 use Rattle.readers.specs.Abbreviations.{Placed, declarations_from, slots_of}
 
 -- declarations whose codes ascend, or of which two have one code
-unfoldable pub accepted : Arranged → Checked
-accepted Ascending = Accepted
-accepted Repeated = Refused
+unfoldable pub accepted : Arranged → Result (Unit {0}) ℕ
+accepted Ascending = Ok tt
+accepted Repeated = Err 3
 
 -- how many there are
 unfoldable pub count_of : Option (Scanned Placed ℕ) → Option ℕ

@@ -4,8 +4,8 @@ use lib.ListN.{length}
 use Rattle.readers.proofs.Declarations.{Checking}
 use Rattle.readers.proofs.abbreviations.check_plain.Given as goal
 
-abbrev pub invariant-loop-step : goal.invariant-loop-step
-invariant-loop-step l = Checking l.s l.start l.c.at
+abbrev pub invariant-loop-d : goal.invariant-loop-d
+invariant-loop-d l = Checking l.s l.start l.c.at
 
-abbrev pub decreases-loop-step : goal.decreases-loop-step
-decreases-loop-step l = length l.s - l.c.at
+abbrev pub decreases-loop-d : goal.decreases-loop-d
+decreases-loop-d l = length l.s - l.c.at
