@@ -6,7 +6,8 @@ ghost use Rattle.marking.specs.KeepList.{treatment_of, treated};
 use crate::addresses::Verdict;
 use readers::refusal::{Cause, Refusal};
 
-// The treatments of a tag: entries that have it are always roots, or never.
+// The treatments of a tag: entries that have it are always roots, or never. No enum: hosts lend them as bytes (document
+// 02, Point 10), and `treated` goes by the byte.
 const ALWAYS_ROOT: u8 = 1;
 
 const NEVER_ROOT: u8 = 2;

@@ -1,4 +1,4 @@
--- The number of each refusal, as callers see it (document 01, the table of refusals).
+-- The number of each refusal, as callers see it (documents 01 and 02).
 use Rattle.std.specs.Prelude.{ℕ, Bool, true, false, eqb, ◌≡◌, refl}
 use Rattle.readers.specs.declared.refusal.Cause.{Cause}
 use Rattle.readers.specs.declared.refusal.Cause.TheVariants.{ShortHeader, OutsideDomain, Abbreviations, Entry, ListOrExpression, AddressFlag, AbsoluteReference}

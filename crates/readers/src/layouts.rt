@@ -1,5 +1,6 @@
 // The tokens that forms, operations and list entries are laid out by, and the rows of tokens that are operands, each
-// by its number (specs/Tokens.antt, specs/Operations.antt): one more than the one before it.
+// by its number (specs/Tokens.antt, specs/Operations.antt): one more than the one before it. No enums: `Cursor::field`
+// and `Cursor::row` answer for every byte, the tables are bytes, and a token up to 8 is its own width.
 
 // Tokens. Numbers of 1 to 8 bytes have the numbers 1 to 8.
 pub const NO_BYTES: u8 = 0;

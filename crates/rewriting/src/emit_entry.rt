@@ -160,7 +160,13 @@ fn is_leb(form: u64) -> bool
 }
 
 // An index by its rank; as it is where its list is absent.
-fn new_index(list: &[u8], count: Option<usize>, value: u64, kind: usize, work: &[u32]) -> u64
+fn new_index(
+    list: &[u8],
+    count: Option<usize>,
+    value: u64,
+    kind: IndexKind,
+    work: &[u32],
+) -> u64
     ensures { (o : Option (List ℕ)) → Lent o list.now count → result ≡ rank_or o value }
 {
     match count {
@@ -233,9 +239,9 @@ fn emit_attribute(
         return Ok(to + n);
     };
     let index = match kind {
-        IndexKind::Ranges => new_index(ranges, ranges_count, field.value, 0, bounds),
-        IndexKind::Locations => new_index(locations, locations_count, field.value, 1, bounds),
-        IndexKind::Strings => new_index(strings, strings_count, field.value, 2, bounds),
+        IndexKind::Ranges => new_index(ranges, ranges_count, field.value, kind, bounds),
+        IndexKind::Locations => new_index(locations, locations_count, field.value, kind, bounds),
+        IndexKind::Strings => new_index(strings, strings_count, field.value, kind, bounds),
     };
     after(
         to,
