@@ -160,13 +160,7 @@ fn is_leb(form: u64) -> bool
 }
 
 // An index by its rank; as it is where its list is absent.
-fn new_index(
-    list: &[u8],
-    count: Option<usize>,
-    value: u64,
-    kind: IndexKind,
-    work: &[u32],
-) -> u64
+fn new_index(list: &[u8], count: Option<usize>, value: u64, kind: IndexKind, work: &[u32]) -> u64
     ensures { (o : Option (List ℕ)) → Lent o list.now count → result ≡ rank_or o value }
 {
     match count {
