@@ -363,8 +363,7 @@ fn analyse_unit(
     targets: &mut [u64],
 ) -> Result<Analysis, Refusal>
     requires { AnalysisInput lent.abbreviations.now index.now h.abbreviations (take h.end section.now)
-        entry_room reference_room offsets.old parents.old roots.old reference_ends.old targets.old
-        (keep_of lent) }
+        entry_room reference_room offsets.old parents.old roots.old reference_ends.old targets.old (keep_of lent) }
     ensures { let by = sections_with lent.entry debug_ranges.now in
         let found = unit_analysed h.encoding by (take h.end section.now)
         (rooms entry_room reference_room) h.abbreviations h.first.0 in
