@@ -348,11 +348,11 @@ pub fn ranges_for<'a>(e: Encoding, ranges: &'a [u8], debug_ranges: &'a [u8]) -> 
 
 // A unit whose declarations were checked, into cleared columns; zeros after a refusal. What is lent has .debug_rnglists,
 // and .debug_ranges stands beside it.
-fn analyse_unit(
+fn analyse_unit<'a>(
     section: &[u8],
     h: UnitHeader,
-    lent: Lent<'_>,
-    debug_ranges: &[u8],
+    lent: Lent<'a>,
+    debug_ranges: &'a [u8],
     index: &[u64],
     entry_room: usize,
     reference_room: usize,
