@@ -10,6 +10,7 @@ ghost use Rattle.marking.specs.Analysis.{sections, ranges_for, rooms, root_of, n
 ghost use Rattle.marking.specs.Analysis.{after_list, header_by};
 ghost use Rattle.marking.specs.Columns.{offsets_in, parents_in, roots_in, ends_in, names_in, column, least, rooms_of};
 ghost use Rattle.marking.specs.Columns.{index_after, answer_of};
+ghost use Rattle.marking.specs.Inner.Lent.{keep_of, sections_with, sections_of};
 ghost use Rattle.marking.specs.Inner.Columns.{AnalysisInput, Outcome, headed, refusal_of, entry_answer, entry_table, left_by, unit_found, root_number};
 
 use crate::addresses::Verdict;
@@ -49,6 +50,19 @@ pub struct UnitAnalysis {
     pub analysis: Result<Analysis, Refusal>,
 }
 
+// What entries are read by beside their unit: the other sections, with one section of range lists, a keep list, and what
+// a call tells.
+#[derive(Clone, Copy)]
+struct Lent<'a> {
+    abbreviations: &'a [u8],
+    locations: &'a [u8],
+    ranges: &'a [u8],
+    addresses: &'a [u8],
+    tags: &'a [u8],
+    treatments: &'a [u8],
+    setting: Setting,
+}
+
 // The number of a refusal of an entry: 4 where its values can't be read, which comes before any other.
 fn refusal(unit: &[u8], abbreviations: &[u8], x: EntryHead, e: Encoding, n: Refusal) -> Refusal
     ensures { result ≡ refusal_of (head_end e abbreviations.now unit.now x) n }
@@ -64,37 +78,35 @@ fn refusal(unit: &[u8], abbreviations: &[u8], x: EntryHead, e: Encoding, n: Refu
 // Whether an entry is a root: its root test, which no treatment spares it, then the treatment of its tag.
 fn root_of(
     unit: &[u8],
-    abbreviations: &[u8],
     x: EntryHead,
-    ranges: &[u8],
-    addresses: &[u8],
-    setting: Setting,
+    lent: Lent<'_>,
     rnglists_base: u64,
     e: Encoding,
-    tags: &[u8],
-    treatments: &[u8],
 ) -> Result<Verdict, Refusal>
-    requires { keep_refusal (keep_in tags.now treatments.now) ≡ 0 }
-    ensures { let lists = ranges_by ranges.now addresses.now setting.ranges_base rnglists_base in
-        let attributes = entry_values e abbreviations.now x.declaration.attributes.at unit.now
-        x.values.at in
-        result ≡ treated (treatment_of (keep_in tags.now treatments.now) x.declaration.tag)
-        (root_test e lists setting.fixed_addresses unit.now x.declaration.tag attributes) }
+    requires { keep_refusal (keep_of lent) ≡ 0 }
+    ensures { let by = sections_of lent.entry in
+        let lists = ranges_by by.ranges by.addresses by.setting.ranges_base rnglists_base in
+        let attributes = entry_values e by.abbreviations x.declaration.attributes.at unit.now x.values.at in
+        result ≡ treated (treatment_of by.keep x.declaration.tag)
+        (root_test e lists by.setting.fixed_addresses unit.now x.declaration.tag attributes) }
 {
     let declaration = x.declaration;
     let verdict = is_root(
         unit,
-        abbreviations,
+        lent.abbreviations,
         declaration.attributes,
         x.values,
         declaration.tag,
-        ranges,
-        addresses,
-        setting,
+        lent.ranges,
+        lent.addresses,
+        lent.setting,
         rnglists_base,
         e,
     );
-    treat(verdict, treatment(tags, treatments, declaration.tag))
+    treat(
+        verdict,
+        treatment(lent.tags, lent.treatments, declaration.tag),
+    )
 }
 
 // A verdict as a row has it: 1 for a root, else 0.
@@ -111,56 +123,38 @@ fn root_number(verdict: Verdict) -> u8
 // of `analyse_entries`, the range lists of the unit's version stand for both sections of them.
 fn analyse_entry(
     unit: &[u8],
-    abbreviations: &[u8],
     x: EntryHead,
-    locations: &[u8],
-    ranges: &[u8],
-    addresses: &[u8],
-    setting: Setting,
+    lent: Lent<'_>,
     rnglists_base: u64,
     loclists_base: u64,
     e: Encoding,
     targets: &mut [u64],
     at: usize,
-    tags: &[u8],
-    treatments: &[u8],
 ) -> Result<EntryAnalysis, Refusal>
-    requires { keep_refusal (keep_in tags.now treatments.now) ≡ 0 }
-    ensures { let lent = sections abbreviations.now locations.now ranges.now
-        addresses.now ranges.now (keep_in tags.now treatments.now) setting in
-        let end = head_end e abbreviations.now unit.now x in
-        let root = root_of e lent unit.now rnglists_base (headed x) in
-        let names = names_of e lent unit.now loclists_base (headed x) in
+    requires { keep_refusal (keep_of lent) ≡ 0 }
+    ensures { let by = sections_of lent.entry in
+        let end = head_end e by.abbreviations unit.now x in
+        let root = root_of e by unit.now rnglists_base (headed x) in
+        let names = names_of e by unit.now loclists_base (headed x) in
         (result ≡ entry_answer (length targets.old) at end root names)
         × (targets.new ≡ entry_table targets.old at root names) }
 {
     let declaration = x.declaration;
     let specs = declaration.attributes;
     let values = x.values;
-    let verdict = match root_of(
-        unit,
-        abbreviations,
-        x,
-        ranges,
-        addresses,
-        setting,
-        rnglists_base,
-        e,
-        tags,
-        treatments,
-    ) {
+    let verdict = match root_of(unit, x, lent, rnglists_base, e) {
         Ok(verdict) => verdict,
         Err(n) => {
-            return Err(refusal(unit, abbreviations, x, e, n));
+            return Err(refusal(unit, lent.abbreviations, x, e, n));
         }
     };
     let root = root_number(verdict);
     let scan = match scan_live_die_attrs(
         unit,
-        abbreviations,
+        lent.abbreviations,
         specs,
         values,
-        locations,
+        lent.locations,
         loclists_base,
         e,
         targets,
@@ -168,7 +162,7 @@ fn analyse_entry(
     ) {
         Ok(scan) => scan,
         Err(n) => {
-            return Err(refusal(unit, abbreviations, x, e, n));
+            return Err(refusal(unit, lent.abbreviations, x, e, n));
         }
     };
     let next = scan.end.ok_or(Refusal(Cause::Entry))?;
@@ -182,15 +176,11 @@ fn analyse_entry(
 // Entry by entry into cleared columns, with room for so many entries and references.
 fn analyse_entries(
     unit: &[u8],
-    abbreviations: &[u8],
+    lent: Lent<'_>,
     from: u64,
     index: &[u64],
     first: Cursor,
     e: Encoding,
-    locations: &[u8],
-    ranges: &[u8],
-    addresses: &[u8],
-    setting: Setting,
     entry_room: usize,
     reference_room: usize,
     offsets: &mut [u64],
@@ -198,15 +188,11 @@ fn analyse_entries(
     roots: &mut [u8],
     reference_ends: &mut [u64],
     targets: &mut [u64],
-    tags: &[u8],
-    treatments: &[u8],
 ) -> Result<Analysis, Refusal>
-    requires { AnalysisInput abbreviations.now index.now from unit.now entry_room reference_room
-        offsets.old parents.old roots.old reference_ends.old targets.old
-        (keep_in tags.now treatments.now) }
-    ensures { let lent = sections abbreviations.now locations.now ranges.now
-        addresses.now ranges.now (keep_in tags.now treatments.now) setting in
-        let found = unit_analysed e lent unit.now (rooms entry_room reference_room) from first.at in
+    requires { AnalysisInput lent.abbreviations.now index.now from unit.now entry_room reference_room
+        offsets.old parents.old roots.old reference_ends.old targets.old (keep_of lent) }
+    ensures { let by = sections_of lent.entry in
+        let found = unit_analysed e by unit.now (rooms entry_room reference_room) from first.at in
         (result ≡ answer_of found)
         × Outcome found
         offsets.old parents.old roots.old reference_ends.old
@@ -223,12 +209,18 @@ fn analyse_entries(
     // No for: the reader moves the cursor on, and not every step is an entry.
     loop {
         match c
-            .entry_head(unit, abbreviations, from, index)
+            .entry_head(unit, lent.abbreviations, from, index)
             .ok_or(Refusal(Cause::Entry))?
         {
             HeadStep::Entry(x) => {
                 if count >= entry_room {
-                    return Err(refusal(unit, abbreviations, x, e, Refusal(Cause::EntryTableFull)));
+                    return Err(refusal(
+                        unit,
+                        lent.abbreviations,
+                        x,
+                        e,
+                        Refusal(Cause::EntryTableFull),
+                    ));
                 }
                 let declaration = x.declaration;
                 let specs = declaration.attributes;
@@ -236,7 +228,7 @@ fn analyse_entries(
                 let parent = nesting.parent;
                 rnglists_base = base_after(
                     unit,
-                    abbreviations,
+                    lent.abbreviations,
                     specs,
                     x.values,
                     declaration.tag,
@@ -246,7 +238,7 @@ fn analyse_entries(
                 );
                 loclists_base = base_after(
                     unit,
-                    abbreviations,
+                    lent.abbreviations,
                     specs,
                     x.values,
                     declaration.tag,
@@ -258,22 +250,7 @@ fn analyse_entries(
                     root,
                     to: place,
                     next,
-                } = analyse_entry(
-                    unit,
-                    abbreviations,
-                    x,
-                    locations,
-                    ranges,
-                    addresses,
-                    setting,
-                    rnglists_base,
-                    loclists_base,
-                    e,
-                    targets,
-                    to,
-                    tags,
-                    treatments,
-                )?;
+                } = analyse_entry(unit, x, lent, rnglists_base, loclists_base, e, targets, to)?;
                 if place > reference_room {
                     return Err(Refusal(Cause::ReferenceTableFull));
                 }
@@ -369,16 +346,14 @@ pub fn ranges_for<'a>(e: Encoding, ranges: &'a [u8], debug_ranges: &'a [u8]) -> 
     ranges
 }
 
-// A unit whose declarations were checked, into cleared columns; zeros after a refusal.
+// A unit whose declarations were checked, into cleared columns; zeros after a refusal. What is lent has .debug_rnglists,
+// and .debug_ranges stands beside it.
 fn analyse_unit<'a>(
     section: &[u8],
     h: UnitHeader,
-    abbreviations: &[u8],
+    lent: Lent<'a>,
+    debug_ranges: &'a [u8],
     index: &[u64],
-    locations: &[u8],
-    ranges: &'a [u8],
-    addresses: &[u8],
-    setting: Setting,
     entry_room: usize,
     reference_room: usize,
     offsets: &mut [u64],
@@ -386,17 +361,11 @@ fn analyse_unit<'a>(
     roots: &mut [u8],
     reference_ends: &mut [u64],
     targets: &mut [u64],
-    debug_ranges: &'a [u8],
-    tags: &[u8],
-    treatments: &[u8],
 ) -> Result<Analysis, Refusal>
-    requires { AnalysisInput abbreviations.now index.now h.abbreviations (take h.end section.now)
-        entry_room reference_room offsets.old parents.old roots.old reference_ends.old targets.old
-        (keep_in tags.now treatments.now) }
-    ensures { let lent = sections abbreviations.now locations.now ranges.now
-        addresses.now debug_ranges.now (keep_in tags.now treatments.now)
-        setting in
-        let found = unit_analysed h.encoding lent (take h.end section.now)
+    requires { AnalysisInput lent.abbreviations.now index.now h.abbreviations (take h.end section.now)
+        entry_room reference_room offsets.old parents.old roots.old reference_ends.old targets.old (keep_of lent) }
+    ensures { let by = sections_with lent.entry debug_ranges.now in
+        let found = unit_analysed h.encoding by (take h.end section.now)
         (rooms entry_room reference_room) h.abbreviations h.first.0 in
         (result ≡ answer_of found)
         × ((offsets.new ≡ column offsets_in (length offsets.old) found)
@@ -406,20 +375,19 @@ fn analyse_unit<'a>(
         × (targets.new ≡ column names_in (length targets.old) found))))) }
 {
     let first = h.first;
-    let lists = ranges_for(h.encoding, ranges, debug_ranges);
+    let lists = ranges_for(h.encoding, lent.ranges, debug_ranges);
     let answer = analyse_entries(
         unit_part(section, h),
-        abbreviations,
+        Lent {
+            ranges: lists,
+            ..lent
+        },
         h.abbreviations,
         index,
         Cursor {
             at: first.0 as usize,
         },
         h.encoding,
-        locations,
-        lists,
-        addresses,
-        setting,
         entry_room,
         reference_room,
         offsets,
@@ -427,8 +395,6 @@ fn analyse_unit<'a>(
         roots,
         reference_ends,
         targets,
-        tags,
-        treatments,
     );
     clear_refused(answer, offsets, parents, roots, reference_ends, targets)
 }
@@ -534,15 +500,21 @@ pub fn analyse<'a>(
                 roots.len(),
                 reference_ends.len(),
             );
-            let analysis = analyse_unit(
-                section,
-                h,
+            let lent = Lent {
                 abbreviations,
-                index,
                 locations,
                 ranges,
                 addresses,
+                tags,
+                treatments,
                 setting,
+            };
+            let analysis = analyse_unit(
+                section,
+                h,
+                lent,
+                debug_ranges,
+                index,
                 room,
                 references.min(targets.len()),
                 offsets,
@@ -550,9 +522,6 @@ pub fn analyse<'a>(
                 roots,
                 reference_ends,
                 targets,
-                debug_ranges,
-                tags,
-                treatments,
             );
             UnitAnalysis { header, analysis }
         }

@@ -12,7 +12,7 @@ use Rattle.marking.proofs.analysis.analyse_entries.Goals as goal
 
 pub loop-x-init : goal.loop-x-init
 loop-x-init c = stage-start _ _ _ _ _ _ _ _ _ _ _ _ _ _ _ c.outside-nesting.ensures c.list_base-rnglists_base.ensures c.list_base-loclists_base.ensures
-    c.well_formed.1.1.1.1.1.1.1.1.1.1.1.1.0.1
+    c.well_formed.1.1.1.1.1.1.1.1.0.1
     c.requires
 
 pub returns-then-count-entry_room : goal.returns-then-count-entry_room

@@ -4,7 +4,8 @@ use Prim.Native.Nat.{ℕ}
 use mathlib.Core.List.{List}
 use Rattle.readers.specs.declared.header.UnitHeader.{UnitHeader}
 use Rattle.marking.specs.declared.setting.Setting.{Setting}
-use Rattle.marking.specs.KeepList.{KeepList, keep_in}
+use Rattle.marking.specs.KeepList.{KeepList}
+use Rattle.marking.specs.Inner.Lent.{keep_of}
 use Rattle.marking.specs.Analysis.{sections, ranges_for, rooms, Analysed, unit_analysed}
 use Rattle.marking.proofs.RangeSections.{unit-same}
 use Rattle.marking.proofs.UnitAnalyses.{ready-in, unit_left}
@@ -34,5 +35,5 @@ analyse_entries-answer-requires c = ready-in c.unit_part.ensures c.requires
 
 pub returns : goal.returns
 returns c =
-    unit_left (chosen c.args.h _ _ _ _ _ (keep_in c.args.tags.now c.args.treatments.now) c.args.setting c.args.entry_room c.args.reference_room _ _ _ c.ranges_for-lists.ensures c.unit_part.ensures)
+    unit_left (chosen c.args.h _ _ _ _ _ (keep_of c.args.lent) c.args.lent.setting c.args.entry_room c.args.reference_room _ _ _ c.ranges_for-lists.ensures c.unit_part.ensures)
     c.analyse_entries-answer.ensures.1 _ c.analyse_entries-answer.ensures.0 _ _ _ _ _ _ c.clear_refused.ensures
