@@ -150,10 +150,17 @@ impl Cursor {
         self.long_sleb(s)
     }
 
-    // A number in at most three bytes and 16 bits: a tag, a name or a form.
+    // A number in at most three bytes and 16 bits: a tag, a name or a form. Most have one byte.
     pub fn short(self, s: &[u8]) -> Option<(u64, Cursor)>
         ensures { result ≡ leb_at short s.now self.at }
     {
+        let at = self.at;
+        if at < s.len() {
+            let b = s[at] as u64;
+            if b < 128 {
+                return Some((b, Cursor { at: at + 1 }));
+            }
+        }
         let (value, next) = self.uleb(s)?;
         let width = next.at - self.at;
         if width <= 3 && value < 65536 {
