@@ -17,8 +17,8 @@ use lib.Pow.{are_bytes}
 use mir.Syntax.{w8}
 use mir.Val.{Fits}
 use mir.Facts.{yes_ltb, no_ltb, ltb_yes, ltb_no, yes_leb, no_leb, yes_eqb, no_eqb, yes_and}
-use Rattle.readers.specs.Choice.{check, bind}
-use Rattle.readers.proofs.Choice.{pick_yes, pick_no, check-yes, check-no, bind-at, bind-none, bind-bind, bind-ext, either, All, all_of, all-some, all-pick, all-bind, all-triv}
+use Rattle.readers.specs.Choice.{bind}
+use Rattle.readers.proofs.Choice.{pick_yes, pick_no, check-yes, check-no, bind-at, bind-none, either, All, all_of, all-some, all-pick, all-bind, all-triv}
 use Rattle.readers.specs.Numbers.{Groups as Read, groups, below, uleb, unsigned64, sleb, signed64, negative}
 use Rattle.readers.proofs.Numbers.{GroupsLaw, groups-law, ExactGroups, groups-exact}
 use Rattle.readers.specs.Layout.{short, within16, forms_in, after_form}
@@ -283,49 +283,6 @@ pub sleb-none : (s : List ℕ) (at : ℕ) (r : Option Groups) → r ≡ groups_a
 unfolding sleb
 sleb-none s at r e g = is_none sleb s at (bind-none _ (nowhere s at r e g))
 
--- at most k bytes are those of more that are at most k
-unfoldable fewer : ℕ → Read → Option Read
-fewer k t = check (ltb t.0 k) (Some t)
-
-fewer-yes : (k : ℕ) (t : Read) → t.0 < k → fewer k t ≡ Some t
-unfolding fewer
-fewer-yes k t h = check-yes _ _ (yes_ltb {a = t.0} {b = k} h)
-
-fewer-no : (k : ℕ) (t : Read) → k ≤ t.0 → fewer k t ≡ None
-unfolding fewer
-fewer-no k t h = check-no _ _ (no_ltb {a = t.0} {b = k} h)
-
-fewer-below : (k b : ℕ) (t : Read) → bind (fewer k t) (below b) ≡ bind (below b t) (fewer (suc k))
-unfolding below
-fewer-below k b t =
-    let more : Read = (suc t.0, b - 128 + 128 * t.1, t.2) in
-    ⊎_elim
-    (λ u. bind-at (below b) (fewer-yes k t (ltb_yes u)) ∙ sym (bind-at (fewer (suc k)) refl ∙ fewer-yes (suc k) more (let g : t.0 < k = ltb_yes u in omega arith)))
-    (λ u. bind-none (below b) (fewer-no k t (ltb_no u)) ∙ sym (bind-at (fewer (suc k)) refl ∙ fewer-no (suc k) more (let g : k ≤ t.0 = ltb_no u in omega arith)))
-    (either (ltb t.0 k))
-
-none-fewer : (o : Option Read) → None ≡ bind o (fewer 0)
-unfolding bind
-none-fewer None = refl
-none-fewer (Some t) = sym (fewer-no 0 t (omega arith))
-
-groups-fewer : (k m : ℕ) → k ≤ m → (s : List ℕ) → groups k s ≡ bind (groups m s) (fewer k)
-unfolding groups
-groups-fewer zero m h s = none-fewer (groups m s)
-groups-fewer (suc k) zero h s = absurd (omega arith)
-groups-fewer (suc k) (suc m) h [] = sym (bind-none (fewer (suc k)) refl)
-groups-fewer (suc k) (suc m) h (b ∷ s) =
-    ⊎_elim
-    (λ u. pick_yes _ _ _ u ∙ sym (bind-at (fewer (suc k)) (pick_yes _ _ _ u) ∙ fewer-yes (suc k) (0, b, s) (omega arith)))
-    (λ u.
-    pick_no _ _ _ u
-    ∙ ap (λ o. bind o (below b)) (groups-fewer k m (omega arith) s)
-    ∙ bind-bind (groups m s) (fewer k) (below b)
-    ∙ bind-ext (groups m s) _ _ (fewer-below k b)
-    ∙ sym (bind-bind (groups m s) (below b) (fewer (suc k)))
-    ∙ ap (λ o. bind o (fewer (suc k))) (sym (pick_no _ _ _ u)))
-    (either (ltb b 128))
-
 power-back : (n m : ℕ) → 128 ^ n < 128 ^ m → n < m
 power-back n m h =
     ⊎_elim
@@ -493,71 +450,78 @@ sleb-inside = leb-inside sleb sleb-law
 pub short-inside : (s : List ℕ) (at v : ℕ) (next : Cursor) → leb_at short s at ≡ Some (v, next) → (at < next.at) × (next.at ≤ length s)
 short-inside = leb-inside short short-law
 
--- ---- a number in at most three bytes and 16 bits, by the number in at most ten bytes and 64 bits
+-- ---- a number in at most three bytes and 16 bits
 
-uleb-groups : (o : Option Read) (t : Read) → bind o unsigned64 ≡ Some t → o ≡ Some t
-unfolding bind unsigned64
-uleb-groups None t e = let z : ◌≡◌ {A = ℕ} 0 1 = cc in absurd (omega arith)
-uleb-groups (Some u) t e =
-    ⊎_elim
-    (λ y. sym (check-yes _ _ y) ∙ e)
-    (λ y. let n : None ≡ Some t = sym (check-no _ (Some u) y) ∙ e in let z : ◌≡◌ {A = ℕ} 0 1 = cc in absurd (omega arith))
-    (either (ltb u.1 (2 ^ 64)))
+-- a byte that says that another follows
+next-group : (s : List ℕ) (at i k : ℕ) → i ≡ at + 1 → at < length s → 128 ≤ get_or s at 0
+    → groups (suc k) (drop at s) ≡ bind (groups k (drop i s)) (below (get_or s at 0))
+unfolding groups
+next-group s at i k e h hi = rw (e, drop-cons s at 0 h, add-one at) (pick_no _ _ _ (no_ltb {a = get_or s at 0} {b = 128} hi))
 
-within16-over : (t : Read) → 2 ^ 16 ≤ t.1 → within16 t ≡ None
-unfolding within16
-within16-over t h = check-no _ _ (no_ltb {a = t.1} {b = 2 ^ 16} h)
-
-over-either : (t : Read) → 2 ^ 16 ≤ t.1 → bind (fewer 3 t) within16 ≡ None
-over-either t h =
-    ⊎_elim
-    (λ y. bind-at within16 (fewer-yes 3 t (ltb_yes y)) ∙ within16-over t h)
-    (λ y. bind-none within16 (fewer-no 3 t (ltb_no y)))
-    (either (ltb t.0 3))
-
-short-by : (s : List ℕ) → short s ≡ bind (bind (groups 10 s) (fewer 3)) within16
-unfolding short
-short-by s = ap (λ o. bind o within16) (groups-fewer 3 10 (omega arith) s)
-
--- where that can't be read
-pub short_none : (s : List ℕ) (at : ℕ) → leb_at uleb s at ≡ None → None ≡ leb_at short s at
-unfolding uleb bind unsigned64
-short_none s at g = is_none short s at (short-by (drop at s) ∙ over (groups 10 (drop at s)) (leb-nothing uleb s at g))
+-- nothing left
+no-group : (s : List ℕ) (at k : ℕ) → length s ≤ at → groups k (drop at s) ≡ None
+unfolding groups
+no-group s at k h = rw (drop_of_length-le s h) (nil k)
   where
-    over : (o : Option Read) → bind o unsigned64 ≡ None → bind (bind o (fewer 3)) within16 ≡ None
-    over None e = refl
-    over (Some t) e =
-        ⊎_elim
-        (λ y. let n : Some t ≡ None = sym (check-yes _ (Some t) y) ∙ e in let z : ◌≡◌ {A = ℕ} 0 1 = cc in absurd (omega arith))
-        (λ y. let l : 2 ^ 64 ≤ t.1 = ltb_no y in over-either t (omega arith))
-        (either (ltb t.1 (2 ^ 64)))
+    nil : (k : ℕ) → groups k [] ≡ None
+    nil zero = refl
+    nil (suc k) = refl
 
-module _ (s : List ℕ) (at v : ℕ) (next : Cursor) (g : leb_at uleb s at ≡ Some (v, next)) where
-  of_groups : Got uleb s at v next
-  of_groups = leb-got uleb s at v next g
+nothing : (s : List ℕ) (f : Read → Option Read) → bind (groups 0 s) f ≡ None
+unfolding bind groups
+nothing s f = refl
 
-  ten-groups : groups 10 (drop at s) ≡ Some (of_groups.count, v, of_groups.rest)
-  unfolding uleb
-  ten-groups = uleb-groups (groups 10 (drop at s)) _ of_groups.read
+pub short_none : (s : List ℕ) (at : ℕ) → length s ≤ at → None ≡ leb_at short s at
+unfolding short
+short_none s at h = is_none short s at (bind-none within16 (no-group s at 3 h))
 
-  pub short-yes : next.at - at ≤ 3 → v < 65536 → Some (v, next) ≡ leb_at short s at
-  unfolding within16
-  short-yes h k =
-      let p : next.at ≡ at + suc of_groups.count = of_groups.past in
-      is_some short s at of_groups.count v of_groups.rest next (ap cursor p)
-      (short-by (drop at s)
-      ∙ bind-at within16 (bind-at (fewer 3) ten-groups ∙ fewer-yes 3 (of_groups.count, v, of_groups.rest) (omega arith))
-      ∙ check-yes _ _ (yes_ltb {a = v} {b = 2 ^ 16} k))
+module _ (s : List ℕ) (at : ℕ) (h : at < length s) (hi : 128 ≤ get_or s at 0) (up : get_or s at 0 < 256) (i : ℕ) (e : i ≡ at + 1) where
+  -- two bytes
+  pub short-cut : length s ≤ i → None ≡ leb_at short s at
+  unfolding short
+  short-cut l = is_none short s at (bind-none within16 (next-group s at i 2 e h hi ∙ bind-none (below (get_or s at 0)) (no-group s i 2 l)))
 
-  pub short-long : 3 < next.at - at → None ≡ leb_at short s at
-  short-long h =
-      let p : next.at ≡ at + suc of_groups.count = of_groups.past in
-      is_none short s at
-      (short-by (drop at s) ∙ bind-none within16 (bind-at (fewer 3) ten-groups ∙ fewer-no 3 (of_groups.count, v, of_groups.rest) (omega arith)))
+  module _ (l : i < length s) where
+    pub short-two : get_or s i 0 < 128 → Some (get_or s at 0 - 128 + 128 * get_or s i 0, cursor (at + 2)) ≡ leb_at short s at
+    unfolding short within16 below
+    short-two lo =
+        let v : ℕ = get_or s at 0 - 128 + 128 * get_or s i 0 in
+        let two : groups 3 (drop at s) ≡ Some (1, v, drop (suc i) s) = next-group s at i 2 e h hi ∙ bind-at (below (get_or s at 0)) (one-group s i l lo 1) in
+        is_some short s at 1 v (drop (suc i) s) (cursor (at + 2)) (ap cursor (let a : at + 2 ≡ at + suc 1 = omega arith in a))
+        (bind-at within16 two ∙ check-yes _ _ (yes_ltb {a = v} {b = 2 ^ 16} (omega arith)))
 
-  pub short-no : 65536 ≤ v → None ≡ leb_at short s at
-  short-no k =
-      is_none short s at (short-by (drop at s) ∙ ap (λ o. bind o within16) (bind-at (fewer 3) ten-groups) ∙ over-either (of_groups.count, v, of_groups.rest) k)
+    -- three bytes
+    module _ (hi₁ : 128 ≤ get_or s i 0) (up₁ : get_or s i 0 < 256) (j : ℕ) (e₁ : j ≡ i + 1) where
+      by-third : (o : Option Read) → groups 1 (drop j s) ≡ o → groups 3 (drop at s) ≡ bind (bind o (below (get_or s i 0))) (below (get_or s at 0))
+      by-third o q =
+          next-group s at i 2 e h hi
+          ∙ ap (λ o. bind o (below (get_or s at 0))) (next-group s i j 1 e₁ l hi₁ ∙ ap (λ o. bind o (below (get_or s i 0))) q)
+
+      pub short-cut-2 : length s ≤ j → None ≡ leb_at short s at
+      unfolding short bind
+      short-cut-2 m = is_none short s at (bind-none within16 (by-third None (no-group s j 1 m)))
+
+      module _ (m : j < length s) where
+        abbrev v : ℕ
+        v = get_or s at 0 - 128 + 128 * (get_or s i 0 - 128 + 128 * get_or s j 0)
+
+        three : get_or s j 0 < 128 → groups 3 (drop at s) ≡ Some (2, v, drop (suc j) s)
+        unfolding bind below
+        three lo = by-third (Some (0, get_or s j 0, drop (suc j) s)) (one-group s j m lo 0)
+
+        pub short-three : get_or s j 0 < 4 → Some (v, cursor (at + 3)) ≡ leb_at short s at
+        unfolding short within16
+        short-three lo =
+            is_some short s at 2 v (drop (suc j) s) (cursor (at + 3)) (ap cursor (let a : at + 3 ≡ at + suc 2 = omega arith in a))
+            (bind-at within16 (three (omega arith)) ∙ check-yes _ _ (yes_ltb {a = v} {b = 2 ^ 16} (omega arith)))
+
+        pub short-over : 4 ≤ get_or s j 0 → None ≡ leb_at short s at
+        unfolding short within16 bind
+        short-over k =
+            ⊎_elim
+            (λ u. is_none short s at (bind-at within16 (three (ltb_yes u)) ∙ check-no _ _ (no_ltb {a = v} {b = 2 ^ 16} (omega arith))))
+            (λ u. is_none short s at (bind-none within16 (by-third None (next-group s j (j + 1) 0 refl m (ltb_no u) ∙ nothing (drop (j + 1) s) (below (get_or s j 0))))))
+            (either (ltb (get_or s j 0) 128))
 
 -- ---- the form numbers of DW_FORM_indirect
 

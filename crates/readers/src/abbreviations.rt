@@ -81,6 +81,7 @@ fn plain_head(code: u64, tag: u64, children: u64) -> bool
 
 impl Cursor {
     // The attribute specification at a place. Most have a name and a form of one byte each.
+    #[inline(always)]
     pub fn attribute_spec(self, s: &[u8]) -> Option<SpecStep>
         ensures { result ≡ spec_at s.now self.at }
     {
@@ -104,7 +105,8 @@ impl Cursor {
     }
 
     // The attribute specification at a place, of numbers of any length.
-    fn long_spec(self, s: &[u8]) -> Option<SpecStep>
+    #[inline(always)]
+    fn any_spec(self, s: &[u8]) -> Option<SpecStep>
         ensures { result ≡ spec_at s.now self.at }
     {
         let (name, after_name) = self.short(s)?;
@@ -118,13 +120,21 @@ impl Cursor {
         implicit_spec(s, name, form, after_form)
     }
 
+    // The same, called: whoever goes by `attribute_spec` holds its way of two bytes alone.
+    #[inline(never)]
+    fn long_spec(self, s: &[u8]) -> Option<SpecStep>
+        ensures { result ≡ spec_at s.now self.at }
+    {
+        self.any_spec(s)
+    }
+
     // Past the attribute specifications that start at a place, and the pair that closes them.
     pub fn past_attributes(self, s: &[u8]) -> Option<Cursor>
         ensures { result ≡ past_attributes s.now self.at }
     {
         let mut c = self;
         loop {
-            match c.long_spec(s)? {
+            match c.any_spec(s)? {
                 SpecStep::Attribute(a) => {
                     let next = a.next;
                     c = next;
@@ -138,6 +148,7 @@ impl Cursor {
 
     // The head of the declaration at a place: its code, tag and children byte, and the cursor to its attribute
     // specifications. Most have a code and a tag of one byte each.
+    #[inline(always)]
     pub fn head(self, s: &[u8]) -> Option<DeclarationStep>
         ensures { result ≡ head_at s.now self.at }
     {
@@ -190,6 +201,7 @@ impl Cursor {
     }
 
     // The declaration at a place, with its attribute specifications.
+    #[inline(always)]
     pub fn declaration(self, s: &[u8]) -> Option<DeclarationStep>
         ensures { result ≡ declaration_at s.now self.at }
     {

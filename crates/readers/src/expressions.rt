@@ -65,6 +65,10 @@ fn reference_of(op: Operation) -> Option<Reference>
     let first = op.first;
     let second = op.second;
     let next = op.next;
+    // The common rows stand below those that hold a reference.
+    if row < ROW_REFERENCE2 {
+        return None;
+    }
     match row {
         ROW_REFERENCE2 | ROW_REFERENCE4 => named(first, false, next),
         ROW_TYPE | ROW_TYPE_BLOCK1 => named_type(first, next),
@@ -100,14 +104,16 @@ pub fn walk_expression(s: &[u8], e: Encoding) -> Option<(usize, bool)>
         let row = op.row;
         let first = op.first;
         let next = op.next;
-        let walk = if row == ROW_EXPRESSION {
-            walk_expression(first.expression(s), e)
+        // Each branch takes its answer by itself: one answer for both would lie in memory.
+        if row == ROW_EXPRESSION {
+            let (more, named) = walk_expression(first.expression(s), e)?;
+            references += more;
+            absolute |= named;
         } else {
-            own_walk(op)
-        };
-        let (more, named) = walk?;
-        references += more;
-        absolute |= named;
+            let (more, named) = own_walk(op)?;
+            references += more;
+            absolute |= named;
+        }
         c = next;
     }
     Some((references, absolute))

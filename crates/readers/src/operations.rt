@@ -469,18 +469,19 @@ impl Cursor {
         }
         let row = operation_row(s[at]);
         let start = at + 1;
+        // The commonest row is no arm of the match, where it took two fifths more instructions.
+        if row == ROW_NONE {
+            return one_operand(
+                row,
+                Some(Field {
+                    value: 0,
+                    start,
+                    end: start,
+                }),
+            );
+        }
         let operands = Cursor { at: start };
         match row {
-            ROW_NONE => {
-                one_operand(
-                    row,
-                    Some(Field {
-                        value: 0,
-                        start,
-                        end: start,
-                    }),
-                )
-            }
             ROW_SLEB128 => one_operand(row, number_field(start, operands.sleb(s))),
             ROW_ULEB128 | ROW_TYPE | ROW_ADDRESS_INDEX => {
                 one_operand(row, number_field(start, operands.uleb(s)))

@@ -4,6 +4,9 @@ use native.Mathlib.Omega.{arith}
 use Rattle.readers.proofs.OwnReferences.{early, entry, first-type, second_type, const-type, late}
 use Rattle.readers.proofs.expressions.reference_of.Goals as goal
 
+pub returns-then-row-lt-ROW_REFERENCE2 : goal.returns-then-row-lt-ROW_REFERENCE2
+returns-then-row-lt-ROW_REFERENCE2 c = early _ c.if-row-lt-ROW_REFERENCE2.true
+
 pub returns-in-12 : goal.returns-in-12
 returns-in-12 c = entry _ (omega arith) _ (omega arith) c.named.ensures
 

@@ -10,8 +10,8 @@ use Rattle.readers.proofs.cursor.Cursor.operation.Goals as goal
 pub returns-then-at-s : goal.returns-then-at-s
 returns-then-at-s c = sym (operation-end _ _ _ c.if-at-s.true)
 
-pub returns-in-1 : goal.returns-in-1
-returns-in-1 c = c.one_operand.ensures ∙ operation-bare _ _ _ _ c.if-at-s.false c.operation_row-row.ensures c.in-1.is
+pub returns-then-row-eq-ROW_NONE : goal.returns-then-row-eq-ROW_NONE
+returns-then-row-eq-ROW_NONE c = c.one_operand.ensures ∙ operation-bare _ _ _ _ c.if-at-s.false c.operation_row-row.ensures c.if-row-eq-ROW_NONE.true
 
 pub returns-in-8 : goal.returns-in-8
 returns-in-8 c = c.one_operand-in-8.ensures ∙ ap (one_operand _) c.number_field.ensures ∙ operation-signed _ _ _ _ c.if-at-s.false c.operation_row-row.ensures c.in-8.is _ c.sleb.ensures

@@ -1,25 +1,27 @@
--- `Cursor::short` meets its contract: one byte that says that none follows, or by `uleb`. Assumes nothing.
-use mathlib.Core.Path.{sym, ◌∙◌}
+-- `Cursor::short` meets its contract: by its bytes, one after the other. Assumes nothing.
+use Prim.Native.Nat.{◌+◌}
+use mathlib.Core.Path.{refl}
 use native.Mathlib.Omega.{arith}
-use Rattle.readers.proofs.Lebs.{uleb-inside, short-one, short-yes, short-long, short-no, short_none}
+use Rattle.readers.proofs.Lebs.{short-one, short_none, short-cut, short-two, short-cut-2, short-three, short-over}
 use Rattle.readers.proofs.cursor.Cursor.short.Goals as goal
-use Rattle.readers.proofs.cursor.Cursor.short.Goals.{else-width-le3-via-then-width-le3+else-value-lt65536, else-width-le3-via-else-width-le3}
 
-pub overflow_sub-width : goal.overflow_sub-width
-overflow_sub-width c = omega (arith, uleb-inside _ _ _ _ (sym c.uleb.ensures ∙ c.in_ok-value.was))
+pub returns-then-at-s : goal.returns-then-at-s
+returns-then-at-s c = short_none _ _ (omega arith)
 
-pub returns-then-b-lt128 : goal.returns-then-b-lt128
-returns-then-b-lt128 c = search short-one
+pub returns-then-first-lt128 : goal.returns-then-first-lt128
+returns-then-first-lt128 c = search short-one
 
-pub returns-in_err-value : goal.returns-in_err-value
-returns-in_err-value c = c.from_residual.ensures ∙ short_none _ _ (sym c.uleb.ensures ∙ c.in_err-value.was)
+pub returns-then-at-s-2 : goal.returns-then-at-s-2
+returns-then-at-s-2 c = short-cut _ _ (omega arith) (omega arith) (omega (arith, c.type_inv.s c.args.self.at)) _ refl (omega arith)
 
-pub returns-then-value-lt65536 : goal.returns-then-value-lt65536
-returns-then-value-lt65536 c = short-yes _ _ _ _ (sym c.uleb.ensures ∙ c.in_ok-value.was) c.if-width-le3.true c.if-value-lt65536.true
+pub returns-then-second-lt128 : goal.returns-then-second-lt128
+returns-then-second-lt128 c = short-two _ _ (omega arith) (omega arith) (omega (arith, c.type_inv.s c.args.self.at)) _ refl (omega arith) (omega arith)
 
-pub returns-else-width-le3 : goal.returns-else-width-le3
-returns-else-width-le3 c =
-    elim c.else-width-le3.branch [
-      | else-width-le3-via-then-width-le3+else-value-lt65536 w ↦ short-no _ _ _ _ (sym c.uleb.ensures ∙ c.in_ok-value.was) w.if-value-lt65536.false
-      | else-width-le3-via-else-width-le3 w ↦ short-long _ _ _ _ (sym c.uleb.ensures ∙ c.in_ok-value.was) w.if-width-le3.false
-    ]
+pub returns-then-at-s-3 : goal.returns-then-at-s-3
+returns-then-at-s-3 c = short-cut-2 _ _ (omega arith) (omega arith) (omega (arith, c.type_inv.s c.args.self.at)) _ refl (omega arith) (omega arith) (omega (arith, c.type_inv.s (c.args.self.at + 1))) (c.args.self.at + 2) (omega arith) (omega arith)
+
+pub returns-then-third-lt4 : goal.returns-then-third-lt4
+returns-then-third-lt4 c = short-three _ _ (omega arith) (omega arith) (omega (arith, c.type_inv.s c.args.self.at)) _ refl (omega arith) (omega arith) (omega (arith, c.type_inv.s (c.args.self.at + 1))) (c.args.self.at + 2) (omega arith) (omega arith) (omega arith)
+
+pub returns-else-third-lt4 : goal.returns-else-third-lt4
+returns-else-third-lt4 c = short-over _ _ (omega arith) (omega arith) (omega (arith, c.type_inv.s c.args.self.at)) _ refl (omega arith) (omega arith) (omega (arith, c.type_inv.s (c.args.self.at + 1))) (c.args.self.at + 2) (omega arith) (omega arith) (omega arith)

@@ -1,8 +1,8 @@
--- `Cursor::long_spec` meets its contract. Assumes nothing.
+-- `Cursor::any_spec` meets its contract. Assumes nothing.
 use mathlib.Core.Path.{sym, ◌∙◌}
 use Rattle.readers.proofs.Specs.{spec-no-name, spec-no-form, spec-last, spec-half, spec-unformed, spec-whole}
-use Rattle.readers.proofs.cursor.Cursor.long_spec.Goals as goal
-use Rattle.readers.proofs.cursor.Cursor.long_spec.Goals.{then-name-eq0-2-via-then-name-eq0-2, then-name-eq0-2-via-else-name-eq0-2+then-form-eq0-2, else-name-eq0-via-then-name-eq0+else-form-eq0, else-name-eq0-via-else-name-eq0}
+use Rattle.readers.proofs.cursor.Cursor.any_spec.Goals as goal
+use Rattle.readers.proofs.cursor.Cursor.any_spec.Goals.{then-name-eq0-2-via-then-name-eq0-2, then-name-eq0-2-via-else-name-eq0-2+then-form-eq0-2, else-name-eq0-via-then-name-eq0+else-form-eq0, else-name-eq0-via-else-name-eq0}
 
 pub returns-in_err-name : goal.returns-in_err-name
 returns-in_err-name c = c.from_residual.ensures ∙ spec-no-name _ _ (sym c.short.ensures ∙ c.in_err-name.was)
