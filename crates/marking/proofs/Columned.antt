@@ -107,6 +107,10 @@ nil-of : (left : List EntryRow) → length left ≡ 0 → left ≡ []
 nil-of [] h = refl
 nil-of (r ∷ rs) h = let g : suc (length rs) ≡ 0 = h in absurd (omega arith)
 
+-- the same at an index that is the turn's number
+pub turning-at : {rows : List EntryRow} {pairs₀ pairs : List ℕ} {place from i j : ℕ} → j ≡ i → Turning rows pairs₀ pairs place from i → Turning rows pairs₀ pairs place from j
+turning-at e t = rw e t
+
 module _ (offsets ends : List ℕ) (n : ℕ) (targets pairs₀ : List ℕ) (rows : List EntryRow) (h : ReferenceColumns rows offsets ends n targets pairs₀) where
   pub turning-start : Turning rows pairs₀ pairs₀ 0 0 0
   unfolding names_in pairs_from pad_to

@@ -17,6 +17,7 @@ pub mod Graphs
 pub mod Survivors
 pub mod Markings
 pub mod Rounds
+pub mod Indexes
 pub mod Letters
 pub mod Passes
 pub mod Spreads

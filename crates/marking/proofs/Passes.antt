@@ -125,6 +125,11 @@ pub up_none : (ps m : List ℕ) (i : ℕ) → get_or ps i 0 ≡ no_parent → Pa
 unfolding UpAt
 up_none ps m i e = rw (eq-eqb (get_or ps i 0) no_parent e) (idle (λ n. absurd (n e)))
 
+-- where the entry is not kept
+pub up-low : (ps m : List ℕ) (i : ℕ) → get_or m i 0 < 2 → Pass (WithParents ps) (UpAt ps m i) m m false
+unfolding UpAt
+up-low ps m i h = idle (λ n k. absurd (omega arith))
+
 pub along-pass : (rs m m' : List ℕ) (j : ℕ) (r : Bool) → PairsFit rs m → j < length rs / 2 → Raised m m' (get_or rs (2 * j) 0) 2 (get_or rs (2 * j + 1) 0) 3 r
     → Pass (WithPairs rs) (AlongAt rs m j) m m' r
 unfolding AlongAt references

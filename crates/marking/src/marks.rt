@@ -64,7 +64,9 @@ fn along(pairs: &[u64], marks: &mut [u8]) -> bool
 {
     let mut changed = false;
     for j in 0..pairs.len() / 2 {
-        changed |= along_at(pairs, marks, j);
+        if along_at(pairs, marks, j) {
+            changed = true;
+        }
     }
     changed
 }
@@ -78,7 +80,9 @@ fn up(parents: &[u64], marks: &mut [u8]) -> bool
 {
     let mut changed = false;
     for i in (0..marks.len()).rev() {
-        changed |= up_at(parents, marks, i);
+        if up_at(parents, marks, i) {
+            changed = true;
+        }
     }
     changed
 }

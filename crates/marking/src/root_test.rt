@@ -6,7 +6,8 @@ ghost use Rattle.marking.specs.Roots.{location_live, low_pc, low_pcs, locations,
 ghost use Rattle.readers.specs.EntryAttributes.{entry_values};
 ghost use Rattle.marking.specs.Roots.{root_test, base_after};
 
-use crate::addresses::{Verdict, is_tombstone, lookup};
+pub use crate::addresses::Verdict;
+use crate::addresses::{is_tombstone, lookup};
 use crate::named::next_named;
 use crate::setting::Setting;
 use readers::abbreviations::SpecStep;

@@ -52,6 +52,9 @@ pub(crate) fn up_at(parents: &[u64], marks: &mut [u8], i: usize) -> bool
         (UpAt parents.now marks.old i)
         marks.old marks.new result }
 {
+    if marks[i] < 2 {
+        return false;
+    }
     let p = parents[i];
     p != NO_PARENT && raise(marks, i, 2, p as usize, 2)
 }
@@ -65,7 +68,9 @@ pub(crate) fn down(parents: &[u64], marks: &mut [u8]) -> bool
 {
     let mut changed = false;
     for i in 0..marks.len() {
-        changed |= down_at(parents, marks, i);
+        if down_at(parents, marks, i) {
+            changed = true;
+        }
     }
     changed
 }

@@ -51,8 +51,8 @@ fn widen(parents: &[u64], work: &mut [u32], i: EntryIndex)
 
 // The ends of all entries' descendants, into a column of zeros, the last entry first.
 fn subtree_ends(parents: &[u64], work: &mut [u32]) {
-    for i in (0..parents.len()).rev() {
-        widen(parents, work, EntryIndex(i as u64));
+    for i in (0..parents.len() as u64).rev().map(EntryIndex) {
+        widen(parents, work, i);
     }
 }
 
@@ -76,9 +76,9 @@ fn push_new(work: &mut [u32], top: usize, i: EntryIndex, before: u8) -> usize {
 // Every kept entry onto the empty stack.
 fn push_kept(marks: &[u8], work: &mut [u32]) -> usize {
     let mut top = marks.len();
-    for i in (0..marks.len()).rev() {
-        if marks[i] >= 2 {
-            top = push(work, top, EntryIndex(i as u64));
+    for i in (0..marks.len() as u64).rev().map(EntryIndex) {
+        if marks[place(i)] >= 2 {
+            top = push(work, top, i);
         }
     }
     top

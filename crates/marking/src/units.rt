@@ -151,11 +151,10 @@ fn resolve(
     let starts = &offsets[..entries];
     let mut place: usize = 0;
     let mut from: usize = 0;
-    for i in 0..entries {
-        let holder = EntryIndex(i as u64);
-        let to = reference_ends[i] as usize;
+    for i in (0..entries as u64).map(EntryIndex) {
+        let to = reference_ends[i.0 as usize] as usize;
         let names = &targets[from..to];
-        place = resolve_entry(starts, names, holder, pairs, place, hints, shift);
+        place = resolve_entry(starts, names, i, pairs, place, hints, shift);
         from = to;
     }
     place
