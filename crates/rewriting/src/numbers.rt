@@ -132,8 +132,11 @@ pub(crate) fn put_number(
 pub fn put_bytes(bytes: &[u8], out: &mut [u8])
     ensures { out.new ≡ over bytes.now out.old }
 {
+    // No copy_from_slice: it calls memmove, which the archive for C would need from outside.
     if bytes.len() <= out.len() {
-        out[..bytes.len()].copy_from_slice(bytes);
+        for i in 0..bytes.len() {
+            out[i] = bytes[i];
+        }
     }
 }
 

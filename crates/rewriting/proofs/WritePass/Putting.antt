@@ -67,6 +67,18 @@ drop-zeros n zero = ap (λ m. zeros m) (let e : n ≡ n - 0 = omega arith in e)
 drop-zeros zero (suc width) = ap (λ m. zeros m) (let e : 0 ≡ 0 - suc width = omega arith in e)
 drop-zeros (suc n) (suc width) = drop-zeros n width ∙ ap (λ m. zeros m) (let e : n - width ≡ suc n - suc width = omega arith in e)
 
+-- ---- a run of bytes
+
+pub copy_more : (bytes out₀ out : List ℕ) (i : ℕ) → i < length bytes → length bytes ≤ length out₀ → Putting bytes out₀ (drop i bytes) out i
+    → Putting bytes out₀ (drop (i + 1) bytes) (set out i (get_or bytes i 0)) (i + 1)
+copy_more bytes out₀ out i h l p =
+    putting-more bytes out₀ (drop (i + 1) bytes) out i (get_or bytes i 0) (omega arith)
+    (subst (λ t. Putting bytes out₀ t out i) (drop-cons bytes i 0 h ∙ ap (λ n. get_or bytes i 0 ∷ drop n bytes) (sym (add-one i))) p)
+
+pub copy_done : (bytes out₀ out : List ℕ) (i : ℕ) → length bytes ≤ i → Putting bytes out₀ (drop i bytes) out i → out ≡ bytes ++ drop (length bytes) out₀
+copy_done bytes out₀ out i h p =
+    putting-done bytes out₀ out i (length bytes) refl (subst (λ t. Putting bytes out₀ t out i) (drop_of_length-le bytes {i = i} h) p)
+
 -- ---- digits
 
 -- a number of at most suc k digits, and what is left of it without the lowest
