@@ -5,10 +5,11 @@ use marking::units::UnitMarks;
 use readers::offsets::UnitOffset;
 use readers::refusal::Refusal;
 use rewriting::collect::{Collected, Counts};
+use std::fmt::Display;
 use std::io;
 use std::io::Write;
 
-pub fn refused(to: &mut impl Write, refusal: Refusal) -> io::Result<()> {
+pub fn refused(to: &mut impl Write, refusal: impl Display + Drop) -> io::Result<()> {
     writeln!(to, "refused {refusal}")
 }
 
@@ -106,8 +107,9 @@ fn places(to: &mut impl Write, map: &[u8], n: usize) -> io::Result<()> {
 }
 
 // Bytes after a name, `-` where there are none.
-pub fn hex(to: &mut impl Write, name: &str, bytes: &[u8]) -> io::Result<()> {
-    write!(to, "{name} ")?;
+pub fn hex(to: &mut impl Write, name: &[u8], bytes: &[u8]) -> io::Result<()> {
+    to.write_all(name)?;
+    write!(to, " ")?;
     if bytes.is_empty() {
         return write!(to, "-");
     }
@@ -129,40 +131,33 @@ fn line(to: &mut impl Write, a: Thinned<'_>) -> io::Result<()> {
     list(to, "ranges", a.ranges, c.ranges)?;
     list(to, "locations", a.locations, c.locations)?;
     list(to, "strings", a.strings, c.strings)?;
-    hex(to, " bytes", &a.out[..c.bytes.min(a.out.len())])?;
+    hex(to, b" bytes", &a.out[..c.bytes.min(a.out.len())])?;
     writeln!(to)
 }
 
 // ---- bundles
 
-// What becomes of a bundle's unit, in tables of 2,048 entries and 8,192 references, 4,096 map places, 8,192 numbers a
-// list and 65,536 output bytes. What is lent for the answer holds no zeros before the call.
-fn answered<W: Write, F: Fn(&mut W, Unit<'_>, Thinned<'_>) -> io::Result<()>>(
-    to: &mut W,
-    s: &[u8],
-    told: Told<'_>,
-    print: F,
-) -> io::Result<()>
-    requires { F.IsAlwaysCallable print }
-{
-    let Some(u) = unit_of(s, told) else {
-        return writeln!(to, "bundle");
-    };
-    let mut map = [7; 98304];
-    let mut ranges = [7; 65536];
-    let mut locations = [7; 65536];
-    let mut strings = [7; 65536];
-    let mut out = [7; 65536];
-    let (rewritten, counts) = match rewriting::collect::collect(
+// What collect makes of a unit, in tables of 2,048 entries and 8,192 references and 4,096 map places. Never inlined, so
+// that the tables are gone before anything is printed.
+#[inline(never)]
+fn collect(
+    u: Unit<'_>,
+    map: &mut [u8],
+    ranges: &mut [u8],
+    locations: &mut [u8],
+    strings: &mut [u8],
+    out: &mut [u8],
+) -> Result<Collected, Refusal> {
+    rewriting::collect::collect(
         u.section,
         u.abbreviations,
         u.locations,
         u.ranges,
         u.addresses,
         u.debug_ranges,
-        told.keep.tags,
-        told.keep.treatments,
-        told.setting,
+        u.told.keep.tags,
+        u.told.keep.treatments,
+        u.told.setting,
         false,
         &mut [0; 1024],
         &mut [0; 2048],
@@ -173,6 +168,32 @@ fn answered<W: Write, F: Fn(&mut W, Unit<'_>, Thinned<'_>) -> io::Result<()>>(
         &mut [0; 8192],
         &mut [0; 16384],
         &mut [0; 4096],
+        map,
+        ranges,
+        locations,
+        strings,
+        out,
+    )
+}
+
+// What becomes of a unit, in 4,096 map places, 8,192 numbers a list and 65,536 output bytes. What is lent for the
+// answer holds no zeros before the call. The arrays come first, for behind a branch they are cleared twice; never
+// inlined, for no other call needs them on the stack.
+#[inline(never)]
+fn of_unit<W: Write, F: Fn(&mut W, Unit<'_>, Thinned<'_>) -> io::Result<()>>(
+    to: &mut W,
+    u: Unit<'_>,
+    print: F,
+) -> io::Result<()>
+    requires { F.IsAlwaysCallable print }
+{
+    let mut map = [7; 98304];
+    let mut ranges = [7; 65536];
+    let mut locations = [7; 65536];
+    let mut strings = [7; 65536];
+    let mut out = [7; 65536];
+    let (rewritten, counts) = match collect(
+        u,
         &mut map,
         &mut ranges,
         &mut locations,
@@ -193,6 +214,21 @@ fn answered<W: Write, F: Fn(&mut W, Unit<'_>, Thinned<'_>) -> io::Result<()>>(
         out: &out,
     };
     print(to, u, answer)
+}
+
+// What becomes of a bundle's unit.
+fn answered<W: Write, F: Fn(&mut W, Unit<'_>, Thinned<'_>) -> io::Result<()>>(
+    to: &mut W,
+    s: &[u8],
+    told: Told<'_>,
+    print: F,
+) -> io::Result<()>
+    requires { F.IsAlwaysCallable print }
+{
+    match unit_of(s, told) {
+        Some(u) => of_unit(to, u, print),
+        None => writeln!(to, "bundle"),
+    }
 }
 
 // Prints the entries of a bundle's unit, by what is told of it, with their marks and new offsets; `refused` and a

@@ -142,8 +142,13 @@ fn collect(settings: Settings<'_>, u: Unit<'_>, a: &mut Arrays) -> Result<Collec
 
 // ---- what it leaves: a table's lent part zeros, and behind it what was there
 
+// Whether each of these is x. By `fold`, which takes many at once: `all` can end early, and takes them one by one.
+fn are_all<T: PartialEq + Drop>(a: &[T], x: T) -> bool {
+    a.iter().fold(true, |so_far, y| so_far & (*y == x))
+}
+
 fn is_clean<T: PartialEq + Default + Drop>((lent, behind): (&[T], &[T]), before: T) -> bool {
-    lent.iter().all(|x| *x == T::default()) && behind.iter().all(|x| *x == before)
+    are_all(lent, T::default()) && are_all(behind, before)
 }
 
 fn tables_end(settings: Settings<'_>, a: &Arrays) -> bool {
@@ -159,7 +164,7 @@ fn tables_end(settings: Settings<'_>, a: &Arrays) -> bool {
 
 // Whether what lies behind the lent part is as it was.
 fn is_kept(settings: Settings<'_>, which: Which, a: &[u8]) -> bool {
-    settings.parts(which, a).1.iter().all(|x| *x == BYTE)
+    are_all(settings.parts(which, a).1, BYTE)
 }
 
 fn outputs_end(settings: Settings<'_>, a: &Arrays) -> bool {
@@ -200,37 +205,27 @@ fn answered(to: &mut impl Write, answer: Result<Collected, Refusal>) -> io::Resu
 }
 
 fn lent_bytes(to: &mut impl Write, settings: Settings<'_>, a: &Arrays) -> io::Result<()> {
-    hex(to, "map", settings.parts(Which::Map, &a.map).0)?;
-    hex(to, "\nranges", settings.parts(Which::Ranges, &a.ranges).0)?;
+    hex(to, b"map", settings.parts(Which::Map, &a.map).0)?;
+    hex(to, b"\nranges", settings.parts(Which::Ranges, &a.ranges).0)?;
     hex(
         to,
-        "\nlocations",
+        b"\nlocations",
         settings.parts(Which::Locations, &a.locations).0,
     )?;
     hex(
         to,
-        "\nstrings",
+        b"\nstrings",
         settings.parts(Which::Strings, &a.strings).0,
     )?;
-    hex(to, "\noutput", settings.parts(Which::Output, &a.out).0)?;
+    hex(to, b"\noutput", settings.parts(Which::Output, &a.out).0)?;
     writeln!(to)
 }
 
 // ---- cases
 
-fn case(
-    to: &mut impl Write,
-    settings: Settings<'_>,
-    keep: KeepList<'_>,
-    s: &[u8],
-) -> io::Result<()> {
-    let told = Told {
-        setting: settings.setting(),
-        keep,
-    };
-    let Some(u) = unit_of(s, told) else {
-        return writeln!(to, "bundle");
-    };
+// The case of a unit. The arrays come first and it is never inlined, as `of_unit` of answers.rt.
+#[inline(never)]
+fn of_unit(to: &mut impl Write, settings: Settings<'_>, u: Unit<'_>) -> io::Result<()> {
     let mut a = Arrays {
         index: [NUMBER; 1024],
         offsets: [NUMBER; 2048],
@@ -249,6 +244,22 @@ fn case(
     answered(to, collect(settings, u, &mut a))?;
     lent_bytes(to, settings, &a)?;
     writeln!(to, "{}", word(settings, &a))
+}
+
+fn case(
+    to: &mut impl Write,
+    settings: Settings<'_>,
+    keep: KeepList<'_>,
+    s: &[u8],
+) -> io::Result<()> {
+    let told = Told {
+        setting: settings.setting(),
+        keep,
+    };
+    match unit_of(s, told) {
+        Some(u) => of_unit(to, settings, u),
+        None => writeln!(to, "bundle"),
+    }
 }
 
 // One word: whether tables and what was not lent are as they must be.

@@ -27,6 +27,17 @@ pub enum Kind {
     Cases,
 }
 
+// By the numbers 1 and 2 a dump and marks; any other number thins.
+impl From<u8> for Kind {
+    fn from(number: u8) -> Kind {
+        match number {
+            1 => Kind::Dump,
+            2 => Kind::Marks,
+            _ => Kind::Thin,
+        }
+    }
+}
+
 // Bytes of the longest argument that is read.
 const LONGEST: usize = 4096;
 
@@ -166,8 +177,9 @@ fn first_bytes<R: Alloc>(rt: &R, input: impl Read + Drop, most: u64) -> io::Resu
 pub fn standard_input<R: Env + Input + Alloc>(
     rt: &R,
     to: &mut impl Write,
-    kind: Kind,
+    kind: impl Into<Kind>,
 ) -> io::Result<()> {
+    let kind = kind.into();
     let Some(o) = all_options(rt) else {
         return writeln!(
             to,

@@ -44,7 +44,8 @@ pub fn letter(mark: u8) -> char {
 }
 
 // Marks a unit, with tables of 8,192 references and as many entries as the caller has offsets and marks for, 2,048 at
-// most.
+// most. Never inlined, so that the tables are gone before anything is printed.
+#[inline(never)]
 pub fn mark(u: Unit<'_>, offsets: &mut [u64], marks: &mut [u8]) -> Result<UnitMarks, Refusal> {
     marking::units::mark_unit(
         u.section,

@@ -13,7 +13,7 @@ fn padded(to: &mut impl Write, value: u64, width: usize, out: &mut [u8]) -> io::
         Ok(()) => write!(to, " written")?,
         Err(refusal) => write!(to, " refused {refusal}")?,
     }
-    hex(to, "", out)?;
+    hex(to, b"", out)?;
     writeln!(to)
 }
 
