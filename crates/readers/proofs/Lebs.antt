@@ -17,8 +17,8 @@ use lib.Pow.{are_bytes}
 use mir.Syntax.{w8}
 use mir.Val.{Fits}
 use mir.Facts.{yes_ltb, no_ltb, ltb_yes, ltb_no, yes_leb, no_leb, yes_eqb, no_eqb, yes_and}
-use Rattle.readers.specs.Choice.{bind}
-use Rattle.readers.proofs.Choice.{pick_yes, pick_no, check-yes, check-no, bind-at, bind-none, either, All, all_of, all-some, all-pick, all-bind, all-triv}
+use Rattle.readers.specs.Choice.{check, bind}
+use Rattle.readers.proofs.Choice.{pick_yes, pick_no, check-yes, check-no, bind-at, bind-none, bind-bind, bind-ext, either, All, all_of, all-some, all-pick, all-bind, all-triv}
 use Rattle.readers.specs.Numbers.{Groups as Read, groups, below, uleb, unsigned64, sleb, signed64, negative}
 use Rattle.readers.proofs.Numbers.{GroupsLaw, groups-law, ExactGroups, groups-exact}
 use Rattle.readers.specs.Layout.{short, within16, forms_in, after_form}
@@ -283,6 +283,49 @@ pub sleb-none : (s : List ℕ) (at : ℕ) (r : Option Groups) → r ≡ groups_a
 unfolding sleb
 sleb-none s at r e g = is_none sleb s at (bind-none _ (nowhere s at r e g))
 
+-- at most k bytes are those of more that are at most k
+unfoldable fewer : ℕ → Read → Option Read
+fewer k t = check (ltb t.0 k) (Some t)
+
+fewer-yes : (k : ℕ) (t : Read) → t.0 < k → fewer k t ≡ Some t
+unfolding fewer
+fewer-yes k t h = check-yes _ _ (yes_ltb {a = t.0} {b = k} h)
+
+fewer-no : (k : ℕ) (t : Read) → k ≤ t.0 → fewer k t ≡ None
+unfolding fewer
+fewer-no k t h = check-no _ _ (no_ltb {a = t.0} {b = k} h)
+
+fewer-below : (k b : ℕ) (t : Read) → bind (fewer k t) (below b) ≡ bind (below b t) (fewer (suc k))
+unfolding below
+fewer-below k b t =
+    let more : Read = (suc t.0, b - 128 + 128 * t.1, t.2) in
+    ⊎_elim
+    (λ u. bind-at (below b) (fewer-yes k t (ltb_yes u)) ∙ sym (bind-at (fewer (suc k)) refl ∙ fewer-yes (suc k) more (let g : t.0 < k = ltb_yes u in omega arith)))
+    (λ u. bind-none (below b) (fewer-no k t (ltb_no u)) ∙ sym (bind-at (fewer (suc k)) refl ∙ fewer-no (suc k) more (let g : k ≤ t.0 = ltb_no u in omega arith)))
+    (either (ltb t.0 k))
+
+none-fewer : (o : Option Read) → None ≡ bind o (fewer 0)
+unfolding bind
+none-fewer None = refl
+none-fewer (Some t) = sym (fewer-no 0 t (omega arith))
+
+groups-fewer : (k m : ℕ) → k ≤ m → (s : List ℕ) → groups k s ≡ bind (groups m s) (fewer k)
+unfolding groups
+groups-fewer zero m h s = none-fewer (groups m s)
+groups-fewer (suc k) zero h s = absurd (omega arith)
+groups-fewer (suc k) (suc m) h [] = sym (bind-none (fewer (suc k)) refl)
+groups-fewer (suc k) (suc m) h (b ∷ s) =
+    ⊎_elim
+    (λ u. pick_yes _ _ _ u ∙ sym (bind-at (fewer (suc k)) (pick_yes _ _ _ u) ∙ fewer-yes (suc k) (0, b, s) (omega arith)))
+    (λ u.
+    pick_no _ _ _ u
+    ∙ ap (λ o. bind o (below b)) (groups-fewer k m (omega arith) s)
+    ∙ bind-bind (groups m s) (fewer k) (below b)
+    ∙ bind-ext (groups m s) _ _ (fewer-below k b)
+    ∙ sym (bind-bind (groups m s) (below b) (fewer (suc k)))
+    ∙ ap (λ o. bind o (fewer (suc k))) (sym (pick_no _ _ _ u)))
+    (either (ltb b 128))
+
 power-back : (n m : ℕ) → 128 ^ n < 128 ^ m → n < m
 power-back n m h =
     ⊎_elim
@@ -450,7 +493,7 @@ sleb-inside = leb-inside sleb sleb-law
 pub short-inside : (s : List ℕ) (at v : ℕ) (next : Cursor) → leb_at short s at ≡ Some (v, next) → (at < next.at) × (next.at ≤ length s)
 short-inside = leb-inside short short-law
 
--- ---- a number in at most three bytes and 16 bits
+-- ---- a number in at most three bytes and 16 bits, byte by byte
 
 -- a byte that says that another follows
 next-group : (s : List ℕ) (at i k : ℕ) → i ≡ at + 1 → at < length s → 128 ≤ get_or s at 0
@@ -471,9 +514,9 @@ nothing : (s : List ℕ) (f : Read → Option Read) → bind (groups 0 s) f ≡ 
 unfolding bind groups
 nothing s f = refl
 
-pub short_none : (s : List ℕ) (at : ℕ) → length s ≤ at → None ≡ leb_at short s at
+pub short-end : (s : List ℕ) (at : ℕ) → length s ≤ at → None ≡ leb_at short s at
 unfolding short
-short_none s at h = is_none short s at (bind-none within16 (no-group s at 3 h))
+short-end s at h = is_none short s at (bind-none within16 (no-group s at 3 h))
 
 module _ (s : List ℕ) (at : ℕ) (h : at < length s) (hi : 128 ≤ get_or s at 0) (up : get_or s at 0 < 256) (i : ℕ) (e : i ≡ at + 1) where
   -- two bytes
@@ -522,6 +565,72 @@ module _ (s : List ℕ) (at : ℕ) (h : at < length s) (hi : 128 ≤ get_or s at
             (λ u. is_none short s at (bind-at within16 (three (ltb_yes u)) ∙ check-no _ _ (no_ltb {a = v} {b = 2 ^ 16} (omega arith))))
             (λ u. is_none short s at (bind-none within16 (by-third None (next-group s j (j + 1) 0 refl m (ltb_no u) ∙ nothing (drop (j + 1) s) (below (get_or s j 0))))))
             (either (ltb (get_or s j 0) 128))
+
+-- ---- what a short number is, by the number in at most ten bytes and 64 bits: no body is proved by these laws
+
+uleb-groups : (o : Option Read) (t : Read) → bind o unsigned64 ≡ Some t → o ≡ Some t
+unfolding bind unsigned64
+uleb-groups None t e = let z : ◌≡◌ {A = ℕ} 0 1 = cc in absurd (omega arith)
+uleb-groups (Some u) t e =
+    ⊎_elim
+    (λ y. sym (check-yes _ _ y) ∙ e)
+    (λ y. let n : None ≡ Some t = sym (check-no _ (Some u) y) ∙ e in let z : ◌≡◌ {A = ℕ} 0 1 = cc in absurd (omega arith))
+    (either (ltb u.1 (2 ^ 64)))
+
+within16-over : (t : Read) → 2 ^ 16 ≤ t.1 → within16 t ≡ None
+unfolding within16
+within16-over t h = check-no _ _ (no_ltb {a = t.1} {b = 2 ^ 16} h)
+
+over-either : (t : Read) → 2 ^ 16 ≤ t.1 → bind (fewer 3 t) within16 ≡ None
+over-either t h =
+    ⊎_elim
+    (λ y. bind-at within16 (fewer-yes 3 t (ltb_yes y)) ∙ within16-over t h)
+    (λ y. bind-none within16 (fewer-no 3 t (ltb_no y)))
+    (either (ltb t.0 3))
+
+short-by : (s : List ℕ) → short s ≡ bind (bind (groups 10 s) (fewer 3)) within16
+unfolding short
+short-by s = ap (λ o. bind o within16) (groups-fewer 3 10 (omega arith) s)
+
+-- where that can't be read
+pub short_none : (s : List ℕ) (at : ℕ) → leb_at uleb s at ≡ None → None ≡ leb_at short s at
+unfolding uleb bind unsigned64
+short_none s at g = is_none short s at (short-by (drop at s) ∙ over (groups 10 (drop at s)) (leb-nothing uleb s at g))
+  where
+    over : (o : Option Read) → bind o unsigned64 ≡ None → bind (bind o (fewer 3)) within16 ≡ None
+    over None e = refl
+    over (Some t) e =
+        ⊎_elim
+        (λ y. let n : Some t ≡ None = sym (check-yes _ (Some t) y) ∙ e in let z : ◌≡◌ {A = ℕ} 0 1 = cc in absurd (omega arith))
+        (λ y. let l : 2 ^ 64 ≤ t.1 = ltb_no y in over-either t (omega arith))
+        (either (ltb t.1 (2 ^ 64)))
+
+module _ (s : List ℕ) (at v : ℕ) (next : Cursor) (g : leb_at uleb s at ≡ Some (v, next)) where
+  of_groups : Got uleb s at v next
+  of_groups = leb-got uleb s at v next g
+
+  ten-groups : groups 10 (drop at s) ≡ Some (of_groups.count, v, of_groups.rest)
+  unfolding uleb
+  ten-groups = uleb-groups (groups 10 (drop at s)) _ of_groups.read
+
+  pub short-yes : next.at - at ≤ 3 → v < 65536 → Some (v, next) ≡ leb_at short s at
+  unfolding within16
+  short-yes h k =
+      let p : next.at ≡ at + suc of_groups.count = of_groups.past in
+      is_some short s at of_groups.count v of_groups.rest next (ap cursor p)
+      (short-by (drop at s)
+      ∙ bind-at within16 (bind-at (fewer 3) ten-groups ∙ fewer-yes 3 (of_groups.count, v, of_groups.rest) (omega arith))
+      ∙ check-yes _ _ (yes_ltb {a = v} {b = 2 ^ 16} k))
+
+  pub short-long : 3 < next.at - at → None ≡ leb_at short s at
+  short-long h =
+      let p : next.at ≡ at + suc of_groups.count = of_groups.past in
+      is_none short s at
+      (short-by (drop at s) ∙ bind-none within16 (bind-at (fewer 3) ten-groups ∙ fewer-no 3 (of_groups.count, v, of_groups.rest) (omega arith)))
+
+  pub short-no : 65536 ≤ v → None ≡ leb_at short s at
+  short-no k =
+      is_none short s at (short-by (drop at s) ∙ ap (λ o. bind o within16) (bind-at (fewer 3) ten-groups) ∙ over-either (of_groups.count, v, of_groups.rest) k)
 
 -- ---- the form numbers of DW_FORM_indirect
 

@@ -2,11 +2,11 @@
 use Prim.Native.Nat.{◌+◌}
 use mathlib.Core.Path.{refl}
 use native.Mathlib.Omega.{arith}
-use Rattle.readers.proofs.Lebs.{short-one, short_none, short-cut, short-two, short-cut-2, short-three, short-over}
+use Rattle.readers.proofs.Lebs.{short-one, short-end, short-cut, short-two, short-cut-2, short-three, short-over}
 use Rattle.readers.proofs.cursor.Cursor.short.Goals as goal
 
 pub returns-then-at-s : goal.returns-then-at-s
-returns-then-at-s c = short_none _ _ (omega arith)
+returns-then-at-s c = short-end _ _ (omega arith)
 
 pub returns-then-first-lt128 : goal.returns-then-first-lt128
 returns-then-first-lt128 c = search short-one
