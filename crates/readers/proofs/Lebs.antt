@@ -283,49 +283,6 @@ pub sleb-none : (s : List ℕ) (at : ℕ) (r : Option Groups) → r ≡ groups_a
 unfolding sleb
 sleb-none s at r e g = is_none sleb s at (bind-none _ (nowhere s at r e g))
 
--- at most k bytes are those of more that are at most k
-unfoldable fewer : ℕ → Read → Option Read
-fewer k t = check (ltb t.0 k) (Some t)
-
-fewer-yes : (k : ℕ) (t : Read) → t.0 < k → fewer k t ≡ Some t
-unfolding fewer
-fewer-yes k t h = check-yes _ _ (yes_ltb {a = t.0} {b = k} h)
-
-fewer-no : (k : ℕ) (t : Read) → k ≤ t.0 → fewer k t ≡ None
-unfolding fewer
-fewer-no k t h = check-no _ _ (no_ltb {a = t.0} {b = k} h)
-
-fewer-below : (k b : ℕ) (t : Read) → bind (fewer k t) (below b) ≡ bind (below b t) (fewer (suc k))
-unfolding below
-fewer-below k b t =
-    let more : Read = (suc t.0, b - 128 + 128 * t.1, t.2) in
-    ⊎_elim
-    (λ u. bind-at (below b) (fewer-yes k t (ltb_yes u)) ∙ sym (bind-at (fewer (suc k)) refl ∙ fewer-yes (suc k) more (let g : t.0 < k = ltb_yes u in omega arith)))
-    (λ u. bind-none (below b) (fewer-no k t (ltb_no u)) ∙ sym (bind-at (fewer (suc k)) refl ∙ fewer-no (suc k) more (let g : k ≤ t.0 = ltb_no u in omega arith)))
-    (either (ltb t.0 k))
-
-none-fewer : (o : Option Read) → None ≡ bind o (fewer 0)
-unfolding bind
-none-fewer None = refl
-none-fewer (Some t) = sym (fewer-no 0 t (omega arith))
-
-groups-fewer : (k m : ℕ) → k ≤ m → (s : List ℕ) → groups k s ≡ bind (groups m s) (fewer k)
-unfolding groups
-groups-fewer zero m h s = none-fewer (groups m s)
-groups-fewer (suc k) zero h s = absurd (omega arith)
-groups-fewer (suc k) (suc m) h [] = sym (bind-none (fewer (suc k)) refl)
-groups-fewer (suc k) (suc m) h (b ∷ s) =
-    ⊎_elim
-    (λ u. pick_yes _ _ _ u ∙ sym (bind-at (fewer (suc k)) (pick_yes _ _ _ u) ∙ fewer-yes (suc k) (0, b, s) (omega arith)))
-    (λ u.
-    pick_no _ _ _ u
-    ∙ ap (λ o. bind o (below b)) (groups-fewer k m (omega arith) s)
-    ∙ bind-bind (groups m s) (fewer k) (below b)
-    ∙ bind-ext (groups m s) _ _ (fewer-below k b)
-    ∙ sym (bind-bind (groups m s) (below b) (fewer (suc k)))
-    ∙ ap (λ o. bind o (fewer (suc k))) (sym (pick_no _ _ _ u)))
-    (either (ltb b 128))
-
 power-back : (n m : ℕ) → 128 ^ n < 128 ^ m → n < m
 power-back n m h =
     ⊎_elim
@@ -566,7 +523,50 @@ module _ (s : List ℕ) (at : ℕ) (h : at < length s) (hi : 128 ≤ get_or s at
             (λ u. is_none short s at (bind-none within16 (by-third None (next-group s j (j + 1) 0 refl m (ltb_no u) ∙ nothing (drop (j + 1) s) (below (get_or s j 0))))))
             (either (ltb (get_or s j 0) 128))
 
--- ---- what a short number is, by the number in at most ten bytes and 64 bits: no body is proved by these laws
+-- ---- what a short number is, by the number in at most ten bytes and 64 bits; no body is proved by these laws
+
+-- at most k bytes are those of more that are at most k
+unfoldable fewer : ℕ → Read → Option Read
+fewer k t = check (ltb t.0 k) (Some t)
+
+fewer-yes : (k : ℕ) (t : Read) → t.0 < k → fewer k t ≡ Some t
+unfolding fewer
+fewer-yes k t h = check-yes _ _ (yes_ltb {a = t.0} {b = k} h)
+
+fewer-no : (k : ℕ) (t : Read) → k ≤ t.0 → fewer k t ≡ None
+unfolding fewer
+fewer-no k t h = check-no _ _ (no_ltb {a = t.0} {b = k} h)
+
+fewer-below : (k b : ℕ) (t : Read) → bind (fewer k t) (below b) ≡ bind (below b t) (fewer (suc k))
+unfolding below
+fewer-below k b t =
+    let more : Read = (suc t.0, b - 128 + 128 * t.1, t.2) in
+    ⊎_elim
+    (λ u. bind-at (below b) (fewer-yes k t (ltb_yes u)) ∙ sym (bind-at (fewer (suc k)) refl ∙ fewer-yes (suc k) more (let g : t.0 < k = ltb_yes u in omega arith)))
+    (λ u. bind-none (below b) (fewer-no k t (ltb_no u)) ∙ sym (bind-at (fewer (suc k)) refl ∙ fewer-no (suc k) more (let g : k ≤ t.0 = ltb_no u in omega arith)))
+    (either (ltb t.0 k))
+
+none-fewer : (o : Option Read) → None ≡ bind o (fewer 0)
+unfolding bind
+none-fewer None = refl
+none-fewer (Some t) = sym (fewer-no 0 t (omega arith))
+
+groups-fewer : (k m : ℕ) → k ≤ m → (s : List ℕ) → groups k s ≡ bind (groups m s) (fewer k)
+unfolding groups
+groups-fewer zero m h s = none-fewer (groups m s)
+groups-fewer (suc k) zero h s = absurd (omega arith)
+groups-fewer (suc k) (suc m) h [] = sym (bind-none (fewer (suc k)) refl)
+groups-fewer (suc k) (suc m) h (b ∷ s) =
+    ⊎_elim
+    (λ u. pick_yes _ _ _ u ∙ sym (bind-at (fewer (suc k)) (pick_yes _ _ _ u) ∙ fewer-yes (suc k) (0, b, s) (omega arith)))
+    (λ u.
+    pick_no _ _ _ u
+    ∙ ap (λ o. bind o (below b)) (groups-fewer k m (omega arith) s)
+    ∙ bind-bind (groups m s) (fewer k) (below b)
+    ∙ bind-ext (groups m s) _ _ (fewer-below k b)
+    ∙ sym (bind-bind (groups m s) (below b) (fewer (suc k)))
+    ∙ ap (λ o. bind o (fewer (suc k))) (sym (pick_no _ _ _ u)))
+    (either (ltb b 128))
 
 uleb-groups : (o : Option Read) (t : Read) → bind o unsigned64 ≡ Some t → o ≡ Some t
 unfolding bind unsigned64
